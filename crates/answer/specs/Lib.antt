@@ -1,0 +1,3 @@
+-- What every specification answers in, and how an answer is packed for C.
+pub mod Answer
+pub mod Packed
