@@ -1,0 +1,1 @@
+// The C interface: a thin call over each public operation. include/gateway.h declares every function here.

@@ -1,0 +1,51 @@
+/* Chaltervo: line software of a site gateway.
+
+   Every call answers a uint64_t. Its low byte is the answer number: GATEWAY_ACCEPTED, or the number of a refusal. A refusal
+   is the number and nothing else, and lent memory is then exactly as before. What an accepted call returns is packed above
+   the low byte, in the order that the call's comment gives, the first field lowest; the numbers behind the fields are their
+   widths in bits. A null pointer with length 0 is an empty buffer. */
+#ifndef GATEWAY_H
+#define GATEWAY_H
+
+#include <stddef.h>
+#include <stdint.h>
+
+#ifdef __cplusplus
+extern "C" {
+#endif
+
+/* The answer numbers. */
+enum gateway_answer {
+    GATEWAY_ACCEPTED = 0,
+    GATEWAY_SHORT = 1,        /* fewer bytes or places than the frame needs */
+    GATEWAY_START = 2,        /* wrong start byte, start code or direction */
+    GATEWAY_LENGTH = 3,       /* length byte 00 or above 41 hex, over 64 data bytes to write, or a capture above 4,096 bytes */
+    GATEWAY_LONG = 4,         /* more bytes or places than the frame */
+    GATEWAY_CHECKSUM = 5,     /* CRC, sum or complement is wrong */
+    GATEWAY_UNKNOWN = 6,      /* unknown type or key */
+    GATEWAY_TYPE_LENGTH = 7,  /* length wrong for the type */
+    GATEWAY_FIELD = 8,        /* a field outside its list */
+    GATEWAY_ROOM = 9,         /* lent output too short, or a register map not of 256 bytes */
+    GATEWAY_COST_WORD = 10,   /* cost word above 65025 */
+    GATEWAY_TOTAL = 11        /* the total would pass 2^64 - 1 */
+};
+
+/* Omni-Link frames */
+
+/* Omni-Link messages */
+
+/* Omnistat2 messages */
+
+/* The model thermostat, temperatures and setpoints */
+
+/* Cost */
+
+/* X-10 patterns */
+
+/* The capture listing */
+
+#ifdef __cplusplus
+}
+#endif
+
+#endif
