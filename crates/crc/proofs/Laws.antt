@@ -1,0 +1,7 @@
+pub mod Bits
+pub mod Distance
+pub mod Feed
+pub mod Parity
+pub mod Table
+pub mod Wide
+pub mod Xor

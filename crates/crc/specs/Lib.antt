@@ -1,0 +1,4 @@
+pub mod Bits
+pub mod Crc
+pub mod Places
+pub mod Table

@@ -1,0 +1,5 @@
+pub mod Distance
+pub mod Ladder
+pub mod RoundTrip
+pub mod Whole
+pub mod Written
