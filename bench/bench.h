@@ -1,13 +1,14 @@
 /* Speed of one operation beside the same work in plain C, in alternating rounds of one run. */
 #ifndef BENCH_H
 #define BENCH_H
+#define _POSIX_C_SOURCE 200809L
 #include <stdint.h>
 #include <stdio.h>
 #include <string.h>
 #include <time.h>
 
 /* Keeps a plain C function a call, as ours is. */
-#define PLAIN __attribute__((noinline, noclone)) static
+#define PLAIN __attribute__((noipa)) static
 
 static volatile uint64_t bench_sink;
 

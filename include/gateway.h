@@ -30,7 +30,16 @@ enum gateway_answer {
     GATEWAY_TOTAL = 11        /* the total would pass 2^64 - 1 */
 };
 
-/* Omni-Link frames */
+/* Omni-Link frames: 5A, length L (01 to 41 hex), type byte, L-1 data bytes, CRC low byte, CRC high byte. */
+
+/* Reads a whole frame of any type.
+   Accepted: type (8), count of data bytes (8); the data bytes are bytes[3] and on.
+   Refused, in this order: 1 empty; 2 start; 1 one byte only; 3 length byte; 1 fewer than L+4 bytes; 4 more; 5 CRC. */
+uint64_t omnilink_frame_read(const uint8_t *bytes, size_t len);
+
+/* Writes the frame of a type and len data bytes to out, which has room bytes and does not overlap data.
+   Accepted: bytes written (16), len + 5; out past them stays. Refused: 3 more than 64 data bytes; 9 too little room. */
+uint64_t omnilink_frame_write(uint8_t type, const uint8_t *data, size_t len, uint8_t *out, size_t room);
 
 /* Omni-Link messages */
 

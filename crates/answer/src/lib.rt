@@ -74,7 +74,7 @@ pub fn pack_nothing() -> u64
 pub fn pack_2_bytes(a: u8, b: u8) -> u64
     ensures { λ n. ⌜ n ≡ packed (accepted (byte a ∷ byte b ∷ [])) ⌝ }
 {
-    (a as u64) * 256 + (b as u64) * 65536
+    (b as u64) * 65536 + (a as u64) * 256
 }
 
 // A packed success of four bytes.

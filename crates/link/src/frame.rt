@@ -1,7 +1,7 @@
 use answer::Refusal;
 use answer::Written;
 ghost use mathlib.Core.Path.{_≡_};
-ghost use Prim.Native.Nat.{_+_, _/_, _%_, _≤_};
+ghost use Prim.Native.Nat.{_+_, _*_, _/_, _%_, _≤_};
 ghost use mathlib.Core.List.{_∷_, _++_};
 ghost use lib.Dec.{eqb};
 ghost use lib.ListN.{length, take, drop, set};
@@ -21,10 +21,11 @@ pub enum FrameRead {
     Refused(Refusal),
 }
 
-fn wide(b: u8) -> u16
-    ensures { λ r. ⌜ r ≡ b ⌝ }
+// The CRC of two bytes, the low one sent first.
+fn from_bytes(lo: u8, hi: u8) -> u16
+    ensures { λ r. ⌜ r ≡ lo + 256 * hi ⌝ }
 {
-    b as u16
+    lo as u16 + 256 * (hi as u16)
 }
 
 // Whether the CRC that a frame of length byte l carries is the one of its length, type and data.
@@ -32,7 +33,7 @@ fn crc_holds(bytes: &[u8], l: usize) -> bool
     requires { ⌜ l + 4 ≤ length (now bytes) ⌝ }
     ensures { λ r. ⌜ r ≡ eqb (sent (now (bytes .entry)) l) (crc (covered (now (bytes .entry)) l)) ⌝ }
 {
-    let carried = wide(bytes[l + 2]) + 256 * wide(bytes[l + 3]);
+    let carried = from_bytes(bytes[l + 2], bytes[l + 3]);
     carried == crc::crc16(&bytes[1..l + 2])
 }
 
@@ -62,11 +63,10 @@ pub fn read(bytes: &[u8]) -> FrameRead
     if l as usize + 4 < bytes.len() {
         return FrameRead::Refused(Refusal::Long);
     }
+    let kind = bytes[2];
+    let count = l - 1;
     if crc_holds(bytes, l as usize) {
-        return FrameRead::Accepted {
-            kind: bytes[2],
-            count: l - 1,
-        };
+        return FrameRead::Accepted { kind, count };
     }
     FrameRead::Refused(Refusal::Checksum)
 }

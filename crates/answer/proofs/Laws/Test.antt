@@ -5,7 +5,7 @@ use Prim.Native.Nat.{ℕ, _<_, _≤_}
 use native.Mathlib.Omega.{arith}
 use lib.Dec.{ltb, eqb}
 use borrow.Author.Tests.{lt-ltb, le-ltb, eq-eqb, ne-eqb}
-use Rattle.answer.specs.Answer.{Outcome, refused, accepted, refuseIf}
+use Rattle.answer.specs.Answer.{Outcome, refused, accepted, refuseIf, onAccepted}
 
 module _ {A : Type 0} (n : ℕ) (later : Outcome A) where
   pub holds : {t : Bool} → t ≡ true → refuseIf t n later ≡ refused n
@@ -36,3 +36,8 @@ pub passed : {A : Type 0} (t : Bool) (n : ℕ) (later : Outcome A) (a : A) → r
     → (t ≡ false) × (later ≡ accepted a)
 passed true n later a e = absurd (not-accepted n a e)
 passed false n later a e = (refl, e)
+
+-- what is done of what is accepted, in two steps or in one
+pub in-one : {A B C : Type 0} (f : A → B) (g : B → C) (o : Outcome A) → onAccepted g (onAccepted f o) ≡ onAccepted (λ a. g (f a)) o
+in-one f g (refused n) = refl
+in-one f g (accepted a) = refl

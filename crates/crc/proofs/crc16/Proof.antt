@@ -1,18 +1,15 @@
-use mathlib.Core.Path.{_≡_, refl, sym, ap, _∙_}
-use mathlib.Core.List.{List}
 use Prim.Native.Nat.{ℕ, _+_, _-_, _≤_, zero-le}
-use native.Mathlib.Omega.{arith}
 use lib.ListN.{length, getD, take}
 use lib.Seq.{take-all}
-use Rattle.crc.specs.Bits.{bitsOf}
-use Rattle.crc.specs.Crc.{crc, feed, shift}
-use Rattle.crc.specs.Table.{table}
+use mathlib.Core.List.{List}
+use mathlib.Core.Path.{_≡_, refl, sym, ap, _∙_}
+use native.Mathlib.Omega.{arith}
 use Rattle.crc.proofs.Laws.Table.{crc-next}
 use Rattle.crc.proofs.crc16.Statement.{statement}
 use Rattle.crc.proofs.crc16.Tie as tie
-use Rattle.crc.proofs.crc16.Reads as reads
-use Rattle.crc.proofs.crc16.Lts as lts
-use Rattle.crc.proofs.step.Reads as step-reads
+use Rattle.crc.specs.Bits.{bitsOf}
+use Rattle.crc.specs.Crc.{crc, feed, shift}
+use Rattle.crc.specs.Table.{table}
 
 abbrev Inv-loop : tie.InvT-loop
 Inv-loop bytes t r₀ i₀ r i = (t ≡ table) × (i ≤ length bytes) × (r ≡ crc (take i bytes))
@@ -20,28 +17,22 @@ Inv-loop bytes t r₀ i₀ r i = (t ≡ table) × (i ≤ length bytes) × (r ≡
 abbrev μ-loop : tie.MeasureT-loop
 μ-loop bytes t r₀ i₀ r i = length bytes - i
 
--- src/lib.rt:26:5
 loop-holds : tie.Need-loop-holds Inv-loop μ-loop
 unfolding table shift crc feed
 loop-holds c = (refl, zero-le, refl)
 
--- src/lib.rt:27:25
 shared-slice-read-step : tie.Need-shared-slice-read-step Inv-loop μ-loop
 shared-slice-read-step c = omega arith
 
--- src/lib.rt:27:9
 step-requires : tie.Need-step-requires Inv-loop μ-loop
 step-requires c κs = c .before .before .before .loop .inv .0
 
--- src/lib.rt:28:9
 add-i : tie.Need-add-i Inv-loop μ-loop
 add-i c = omega arith
 
--- src/lib.rt:26:5
 loop-less : tie.Need-loop-less Inv-loop μ-loop
 loop-less c = omega arith
 
--- src/lib.rt:26:5
 loop-again : tie.Need-loop-again Inv-loop μ-loop
 loop-again c =
     let at = c .before .before .before .before in
@@ -53,7 +44,6 @@ loop-again c =
           ∙ crc-next s (at .loop .i) (omega arith),
     )
 
--- src/lib.rt:20:1
 returns : tie.Need-returns Inv-loop μ-loop
 returns c =
     let s = c .before .before .before .args .bytes .now in

@@ -1,28 +1,22 @@
-use mathlib.Core.Path.{ap, _∙_}
-use mathlib.Core.List.{List}
 use Prim.Native.Nat.{ℕ, _/_, _%_}
+use borrow.Author.Needs.{needs}
 use lib.Bits.{bitXor}
 use lib.ListN.{getD}
+use mathlib.Core.List.{List}
+use mathlib.Core.Path.{ap, _∙_}
 use Rattle.crc.proofs.Laws.Table.{byte-by-table}
-use borrow.Author.Needs.{needs}
 use Rattle.crc.proofs.step.Statement.{statement}
 use Rattle.crc.proofs.step.Tie as tie
-use Rattle.crc.proofs.step.Reads as reads
-use Rattle.crc.proofs.step.Lts as lts
 
--- src/lib.rt:16:17
 cast-result : tie.Need-cast-result
 cast-result c = search needs
 
--- src/lib.rt:16:15
 mul-result : tie.Need-mul-result
 mul-result c = search needs
 
--- src/lib.rt:16:15
 element-copy-out-result : tie.Need-element-copy-out-result
 element-copy-out-result c = search needs
 
--- src/lib.rt:11:1
 returns : tie.Need-returns
 returns c =
     let a = c .before .args in

@@ -24,7 +24,7 @@ module _ (s : List ℕ) (f : Frame) (bytes : T (areBytes s)) (e : readFrame s �
       let w : Whole s f = whole s f e in
       ap (λ (t : List ℕ). feed 0 (bitString t)) (shape s f w)
       ∙ residue (body (f .kind) (f .bytes)) _ _ (byte-at s bytes (getD s 1 0 + 2)) (byte-at s bytes (getD s 1 0 + 3))
-        (w .checked ∙ ap crc (covers s f e))
+      (w .checked ∙ ap crc (covers s f e))
 
   size : length (bitString (drop 1 s)) ≡ 8 * length (drop 1 s)
   size = bitString-length (drop 1 s)
@@ -40,12 +40,12 @@ frames-apart : (s t : List ℕ) (f g : Frame) → T (areBytes s) → T (areBytes
 frames-apart s t f g bs bt es et equal other =
     let tails : length (drop 1 s) ≡ length (drop 1 t) = simp length-drop (omega arith) in
     let bits : length (bitString (drop 1 s)) ≡ length (bitString (drop 1 t)) =
-      bitString-length (drop 1 s) ∙ ap (λ (n : ℕ). 8 * n) tails ∙ sym (bitString-length (drop 1 t)) in
+    bitString-length (drop 1 s) ∙ ap (λ (n : ℕ). 8 * n) tails ∙ sym (bitString-length (drop 1 t)) in
     apart (bitString (drop 1 s)) (bitString (drop 1 t)) bits (short s f bs es) (taken s f bs es) (taken t g bt et)
     (λ same. other
-      (from-start s (whole s f es .start)
-      ∙ ap {B = List ℕ} (λ r. 0x5A ∷ r) (same-bytes (drop 1 s) (drop 1 t) (drop-bytes 1 s bs) (drop-bytes 1 t bt) tails same)
-      ∙ sym (from-start t (whole t g et .start))))
+    (from-start s (whole s f es .start)
+    ∙ ap {B = List ℕ} (λ r. 0x5A ∷ r) (same-bytes (drop 1 s) (drop 1 t) (drop-bytes 1 s bs) (drop-bytes 1 t bt) tails same)
+    ∙ sym (from-start t (whole t g et .start))))
 
 pub condition-3 : Condition-3
 unfolding readFrame readBody crc feed shift

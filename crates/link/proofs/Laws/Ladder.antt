@@ -5,12 +5,12 @@ use mathlib.Core.List.{List}
 use Prim.Native.Nat.{ℕ, _+_, _-_, _<_, _≤_}
 use lib.Dec.{eqb}
 use native.Mathlib.Omega.{arith}
-use lib.ListN.{length, getD, take, drop, length-append}
+use lib.ListN.{length, getD, take, drop, length-append, length-take, length-drop}
 use borrow.Author.Tests.{eq-eqb, ne-eqb, lt-ltb, le-ltb}
-use Rattle.answer.specs.Answer.{Outcome, refused, accepted, inRoom}
+use Rattle.answer.specs.Answer.{Outcome, refused, accepted, onAccepted, inRoom}
 use Rattle.answer.proofs.Laws.Output.{no-room, with-room}
 use Rattle.crc.specs.Crc.{crc}
-use Rattle.link.specs.Frame.{Frame, covered, sent, readBody, readFrame, frameBytes, writeFrame}
+use Rattle.link.specs.Frame.{Frame, header, covered, sent, readBody, readFrame, frameBytes, writeFrame}
 
 module _ (s : List ℕ) where
   pub empty : length s ≡ 0 → readFrame s ≡ refused 1
@@ -58,11 +58,21 @@ module _ (s : List ℕ) (l : ℕ) where
           wrong-crc h =
               simp (ne-eqb l 0 some, le-ltb 0x41 l within, le-ltb (length s) (l + 4) enough, le-ltb (l + 4) (length s) whole, h)
 
+          -- its count of data bytes is one less than the length byte
+          count : length (take (l - 1) (drop 3 s)) ≡ l - 1
+          count = simp (length-take, length-drop) (omega arith)
+
           pub whole-frame : eqb (sent s l) (crc (covered s l)) ≡ true
               → readBody s l ≡ accepted (record { kind = getD s 2 0; bytes = take (l - 1) (drop 3 s) })
           unfolding readBody
           whole-frame h =
               simp (ne-eqb l 0 some, le-ltb 0x41 l within, le-ltb (length s) (l + 4) enough, le-ltb (l + 4) (length s) whole, h)
+
+          pub whole-header : eqb (sent s l) (crc (covered s l)) ≡ true
+              → onAccepted header (readBody s l) ≡ accepted (record { kind = getD s 2 0; count = l - 1 })
+          whole-header h =
+              ap (onAccepted header) (whole-frame h)
+              ∙ ap (λ (n : ℕ). accepted (record { kind = getD s 2 0; count = n })) count
 
 -- the frame writer's answers
 pub frame-length : (kind : ℕ) (d : List ℕ) → length (frameBytes kind d) ≡ length d + 5

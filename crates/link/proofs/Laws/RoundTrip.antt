@@ -25,8 +25,8 @@ module _ (kind : ℕ) (d : List ℕ) where
       let c = crc (body kind d) in
       let tail = c % 256 ∷ c / 256 ∷ [] in
       ap₂ (λ (x y : ℕ). x + 256 * y)
-        (ap (λ (k : ℕ). getD (frameBytes kind d) k 0) i ∙ getD-at d (c % 256) (c / 256 ∷ []) 0 (length d) refl)
-        (ap (λ (k : ℕ). getD (frameBytes kind d) k 0) j ∙ getD-append-add d tail 1 0)
+      (ap (λ (k : ℕ). getD (frameBytes kind d) k 0) i ∙ getD-at d (c % 256) (c / 256 ∷ []) 0 (length d) refl)
+      (ap (λ (k : ℕ). getD (frameBytes kind d) k 0) j ∙ getD-append-add d tail 1 0)
       ∙ omega arith
 
   covered-body : covered (frameBytes kind d) (length d + 1) ≡ body kind d

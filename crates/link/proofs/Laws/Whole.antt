@@ -42,7 +42,7 @@ whole s f e =
       within = ltb-false 0x41 l (p₅ .0);
       whole = omega arith;
       checked = eqb-true (sent s l) (crc (covered s l)) (not-false (eqb (sent s l) (crc (covered s l))) (p₈ .0));
-      is = cc (p₈ .1)
+      is = cc (p₈ .1);
     }
 
 -- a list of two more than n elements ends in those two

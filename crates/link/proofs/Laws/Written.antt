@@ -57,19 +57,19 @@ module _ (kind : ℕ) (d old : List ℕ) where
   module _ (lo hi : ℕ) where
     pub crc-written : length d + 5 ≤ length old
         → set (set (begun (0x5A ∷ body kind d) old) (length d + 1 + 2) lo) (length d + 1 + 3) hi
-          ≡ begun ((0x5A ∷ body kind d) ++ (lo ∷ hi ∷ [])) old
+        ≡ begun ((0x5A ∷ body kind d) ++ (lo ∷ hi ∷ [])) old
     crc-written room =
         let i : length d + 1 + 2 ≡ length (0x5A ∷ body kind d) = omega arith in
         let j : length d + 1 + 3 ≡ length ((0x5A ∷ body kind d) ++ (lo ∷ [])) = simp length-append (omega arith) in
         ap₂ (λ (x y : ℕ). set (set (begun (0x5A ∷ body kind d) old) x lo) y hi) i j
         ∙ ap (λ (o : List ℕ). set o (length ((0x5A ∷ body kind d) ++ (lo ∷ []))) hi)
-          (put-next (0x5A ∷ body kind d) old lo (omega arith))
+        (put-next (0x5A ∷ body kind d) old lo (omega arith))
         ∙ put-next ((0x5A ∷ body kind d) ++ (lo ∷ [])) old hi (omega arith)
         ∙ ap (λ (x : List ℕ). begun x old) (append-assoc (0x5A ∷ body kind d) (lo ∷ []) (hi ∷ []))
 
   pub frame-written : length d + 5 ≤ length old
       → set (set filled (length d + 1 + 2) (crc (covered filled (length d + 1)) % 256)) (length d + 1 + 3) (crc (covered filled (length d + 1)) / 256)
-        ≡ outAfter (accepted (frameBytes kind d)) old
+      ≡ outAfter (accepted (frameBytes kind d)) old
   unfolding frameBytes
   frame-written room =
       ap (λ (o : List ℕ). set (set o (length d + 1 + 2) (crc (covered o (length d + 1)) % 256)) (length d + 1 + 3) (crc (covered o (length d + 1)) / 256))

@@ -1,64 +1,48 @@
-use mathlib.Core.Path.{_≡_, ap, _∙_}
 use Prim.Native.Nat.{ℕ, _+_, _-_, _/_, _%_}
-use native.Mathlib.Omega.{arith}
-use lib.ListN.{take, drop, set, length-set}
-use Rattle.crc.specs.Crc.{crc}
 use borrow.Author.Needs.{needs}
+use lib.ListN.{take, drop, set, length-set}
+use mathlib.Core.Path.{_≡_, ap, _∙_}
+use native.Mathlib.Omega.{arith}
+use Rattle.crc.specs.Crc.{crc}
 use Rattle.link.proofs.frame.put_crc.Statement.{statement}
 use Rattle.link.proofs.frame.put_crc.Tie as tie
-use Rattle.link.proofs.frame.put_crc.Reads as reads
-use Rattle.link.proofs.frame.put_crc.Lts as lts
-use Rattle.crc.proofs.crc16.Reads as crc16-reads
 
--- src/frame.rt:110:34
 add-crc16 : tie.Need-add-crc16
 add-crc16 c = search needs
 
--- src/frame.rt:110:26
 sub-crc16 : tie.Need-sub-crc16
 sub-crc16 c = search needs
 
--- src/frame.rt:110:26
 part-crc16-start : tie.Need-part-crc16-start
 part-crc16-start c = search needs
 
--- src/frame.rt:110:26
 part-crc16-end : tie.Need-part-crc16-end
 part-crc16-end c = search needs
 
--- src/frame.rt:110:9
 crc16-requires : tie.Need-crc16-requires
 crc16-requires c κs = search needs
 
--- src/frame.rt:111:18
 cast-out : tie.Need-cast-out
 cast-out c = search needs
 
--- src/frame.rt:111:9
 add-out : tie.Need-add-out
 add-out c = search needs
 
--- src/frame.rt:111:5
 slice-write-out : tie.Need-slice-write-out
 slice-write-out c = search needs
 
--- src/frame.rt:112:18
 cast-out-2 : tie.Need-cast-out-2
 cast-out-2 c = search needs
 
--- src/frame.rt:112:9
 add-out-2 : tie.Need-add-out-2
 add-out-2 c = search needs
 
--- src/frame.rt:112:5
 slice-write-out-2 : tie.Need-slice-write-out-2
 slice-write-out-2 c = simp length-set (omega arith)
 
--- src/frame.rt:106:1
 same-length : tie.Need-same-length
 same-length c = search needs
 
--- src/frame.rt:106:1
 returns : tie.Need-returns
 returns c =
     let a = c .before .before .before .before .args in

@@ -1,40 +1,30 @@
-use mathlib.Core.Path.{ap, _∙_}
-use mathlib.Core.List.{List, _++_}
 use Prim.Native.Nat.{ℕ, _+_, _-_}
-use lib.ListN.{length, take, drop}
-use Rattle.link.proofs.Laws.Written.{data-written}
 use borrow.Author.Needs.{needs}
+use lib.ListN.{length, take, drop}
+use mathlib.Core.List.{List, _++_}
+use mathlib.Core.Path.{ap, _∙_}
+use Rattle.link.proofs.Laws.Written.{data-written}
 use Rattle.link.proofs.frame.put_data.Statement.{statement}
 use Rattle.link.proofs.frame.put_data.Tie as tie
-use Rattle.link.proofs.frame.put_data.Reads as reads
-use Rattle.link.proofs.frame.put_data.Lts as lts
-use Rattle.bytes.proofs.copy.Reads as copy-reads
 
--- src/frame.rt:101:15
 add-end : tie.Need-add-end
 add-end c = search needs
 
--- src/frame.rt:102:23
 sub-copy : tie.Need-sub-copy
 sub-copy c = search needs
 
--- src/frame.rt:102:23
 part-copy-start : tie.Need-part-copy-start
 part-copy-start c = search needs
 
--- src/frame.rt:102:23
 part-copy-end : tie.Need-part-copy-end
 part-copy-end c = search needs
 
--- src/frame.rt:102:5
 copy-requires : tie.Need-copy-requires
 copy-requires c κs = search needs
 
--- src/frame.rt:97:1
 same-length : tie.Need-same-length
 same-length c = search needs
 
--- src/frame.rt:97:1
 returns : tie.Need-returns
 returns c =
     let a = c .before .before .before .before .before .before .args in

@@ -1,64 +1,54 @@
-use mathlib.Core.Path.{_≡_, sym, ap, _∙_}
-use mathlib.Core.List.{List}
 use Prim.Native.Nat.{ℕ, _+_}
-use native.Mathlib.Omega.{arith}
-use lib.ListN.{length}
-use denote.Ref.{now}
-use Rattle.answer.specs.Answer.{Outcome, refused, accepted, onAccepted, inRoom, outAfter}
-use Rattle.link.specs.Frame.{frameBytes, writeFrame}
-use Rattle.link.proofs.Laws.Ladder.{frame-length, too-much, too-little, fits}
 use borrow.Author.Needs.{needs}
+use denote.Ref.{now}
+use lib.ListN.{length}
+use mathlib.Core.List.{List}
+use mathlib.Core.Path.{_≡_, sym, ap, _∙_}
+use native.Mathlib.Omega.{arith}
+use Rattle.answer.specs.Answer.{Outcome, refused, accepted, onAccepted, inRoom, outAfter}
+use Rattle.link.proofs.Laws.Ladder.{frame-length, too-much, too-little, fits}
 use Rattle.link.proofs.frame.write.Statement.{statement}
 use Rattle.link.proofs.frame.write.Tie as tie
-use Rattle.link.proofs.frame.write.Reads as reads
-use Rattle.link.proofs.frame.write.Lts as lts
-use Rattle.link.proofs.frame.put_frame.Reads as put-frame-reads
+use Rattle.link.specs.Frame.{frameBytes, writeFrame}
 
--- src/frame.rt:134:9
 returns : tie.Need-returns
 returns c =
     let a = c .before .before .before .args in
     let o : inRoom (length (now (a .out))) (writeFrame (a .kind) (now (a .«data»))) ≡ refused 3 =
-      too-much (a .kind) (now (a .«data»)) (length (now (a .out))) (omega arith) in
+    too-much (a .kind) (now (a .«data»)) (length (now (a .out))) (omega arith) in
     (sym (ap (onAccepted length) o), sym (ap (λ (x : Outcome (List ℕ)). outAfter x (now (a .out))) o))
 
--- src/frame.rt:136:20
 add-if2 : tie.Need-add-if2
 add-if2 c = search needs
 
--- src/frame.rt:137:9
 returns-2 : tie.Need-returns-2
 returns-2 c =
     let a = c .before .before .before .before .args in
     let o : inRoom (length (now (a .out))) (writeFrame (a .kind) (now (a .«data»))) ≡ refused 9 =
-      too-little (a .kind) (now (a .«data»)) (length (now (a .out))) (omega arith) (omega arith) in
+    too-little (a .kind) (now (a .«data»)) (length (now (a .out))) (omega arith) (omega arith) in
     (sym (ap (onAccepted length) o), sym (ap (λ (x : Outcome (List ℕ)). outAfter x (now (a .out))) o))
 
--- src/frame.rt:139:5
 put-frame-requires : tie.Need-put-frame-requires
 put-frame-requires c κs = search needs
 
--- src/frame.rt:140:20
 cast-t13 : tie.Need-cast-t13
 cast-t13 c = search needs
 
--- src/frame.rt:140:20
 add-t14 : tie.Need-add-t14
 add-t14 c = search needs
 
--- src/frame.rt:128:1
 same-length : tie.Need-same-length
 same-length c = search needs
 
--- src/frame.rt:128:1
 returns-3 : tie.Need-returns-3
 returns-3 c =
     let a = c .before .before .before .before .before .before .before .before .args in
     let d = now (a .«data») in
     let o : inRoom (length (now (a .out))) (writeFrame (a .kind) d) ≡ accepted (frameBytes (a .kind) d) =
-      fits (a .kind) d (length (now (a .out))) (omega arith) (omega arith) in
-    (ap accepted (sym (frame-length (a .kind) d)) ∙ sym (ap (onAccepted length) o),
-    c .before .before .put-frame .ensures ∙ sym (ap (λ (x : Outcome (List ℕ)). outAfter x (now (a .out))) o))
+    fits (a .kind) d (length (now (a .out))) (omega arith) (omega arith) in (
+      ap accepted (sym (frame-length (a .kind) d)) ∙ sym (ap (onAccepted length) o),
+      c .before .before .put-frame .ensures ∙ sym (ap (λ (x : Outcome (List ℕ)). outAfter x (now (a .out))) o),
+    )
 
 pub write-spec : {M : Type 1} → statement M
 write-spec =

@@ -1,0 +1,2 @@
+-- Laws that several exported calls cite.
+mod Laws
