@@ -1,0 +1,38 @@
+-- The value of a cost word: its power of ten, its bound, and when it is refused. Assumes nothing.
+use mathlib.Core.Path.{_≡_, sym, ap}
+use Prim.Native.Nat.{ℕ, zero, _+_, _*_, _/_, _%_, _-_, _^_, _≤_, _<_}
+use native.Mathlib.Nat.{pow-le-pow-right, mul-le-mul, mod-lt, mod-eq-of-lt}
+use native.Mathlib.Omega.{arith}
+use borrow.Author.Tests.{lt-ltb, le-ltb}
+use lib.Dec.{lit<}
+use Rattle.answer.specs.Answer.{Outcome, refused, accepted, refuseIf}
+use Rattle.tally.specs.Cost.{cost, millionths, power, tooLarge, decimals}
+
+pub power-at : {p : ℕ} (k : ℕ) → p ≡ k → 10 ^ (6 - k) ≡ power p
+unfolding power
+power-at k e = ap power (sym e)
+
+pub power-past : (p : ℕ) → 6 ≤ p → 1 ≡ power p
+unfolding power
+power-past p h = let e : 6 - p ≡ 0 = omega arith in ap (λ (n : ℕ). 10 ^ n) (sym e)
+
+pub power-most : (p : ℕ) → power p ≤ 1000000
+unfolding power
+power-most p = let h : 6 - p ≤ 6 = omega arith in pow-le-pow-right {n = 10} (lit< tt) h
+
+-- the largest value: four digits at no decimals
+pub millionths-most : (word : ℕ) → millionths word ≤ 9999000000
+unfolding millionths
+millionths-most word = mul-le-mul {n₁ = word % 10000} {n₂ = 9999} (omega arith) (power-most (decimals word))
+
+-- a value fits the field of 56 bits
+pub millionths-short : (word : ℕ) → millionths word % 2 ^ 56 ≡ millionths word
+millionths-short word = mod-eq-of-lt (omega (arith, millionths-most word))
+
+pub too-large : (word : ℕ) → 65025 < word → cost word ≡ refused 10
+unfolding cost tooLarge
+too-large word h = simp (lt-ltb 65025 word h)
+
+pub convertible : (word : ℕ) → word ≤ 65025 → cost word ≡ accepted (millionths word)
+unfolding cost tooLarge
+convertible word h = simp (le-ltb 65025 word h)

@@ -1,0 +1,85 @@
+-- Over any run of words from 0 the record holds, after each call, the exact sum of the words accepted so far. Assumes nothing.
+use mathlib.Core.Path.{_≡_, refl, sym, ap, _∙_}
+use mathlib.Core.Bool.{Bool, true, false}
+use mathlib.Core.List.{List, [], _∷_, _++_}
+use Prim.Native.Nat.{ℕ, _+_, _-_, _^_}
+use native.Mathlib.Nat.{add-zero, zero-add, add-assoc}
+use native.Mathlib.Omega.{arith}
+use lib.Dec.{ltb}
+use Rattle.answer.specs.Answer.{Outcome, refused, accepted, refuseIf, andThen, onAccepted}
+use Rattle.tally.specs.Cost.{cost, millionths, tooLarge, power}
+use Rattle.tally.specs.Total.{exactSum, nextTotal, kept, totalAfter, answerTo}
+use Rattle.tally.specs.Run.{Call, Promised, totalFound, counted, sumAccepted}
+
+-- the answer told, of the sum
+abbrev told : Outcome ℕ → Outcome (Unit {0})
+told o = onAccepted (λ (next : ℕ). tt) o
+
+-- one word: what the record gains is what the word counts, by its answer
+module _ (total word : ℕ) where
+  gains-sum : (past : Bool)
+      → kept total (refuseIf past 11 (accepted (total + millionths word)))
+      ≡ total + counted (told (refuseIf past 11 (accepted (total + millionths word)))) word
+  gains-sum true = sym (add-zero total)
+  gains-sum false = refl
+
+  gains-word : (large : Bool)
+      → kept total (andThen (refuseIf large 10 (accepted (millionths word))) (exactSum total))
+      ≡ total + counted (told (andThen (refuseIf large 10 (accepted (millionths word))) (exactSum total))) word
+  unfolding exactSum
+  gains-word true = sym (add-zero total)
+  gains-word false = gains-sum (ltb (2 ^ 64 - 1) (total + millionths word))
+
+  pub gains : totalAfter total word ≡ total + counted (answerTo total word) word
+  unfolding nextTotal cost
+  gains = gains-word (tooLarge word)
+
+-- a run of calls from any total: the record gains the exact sum of the accepted words
+pub exact-from : (total : ℕ) (cs : List Call) → Promised total cs → totalFound total cs ≡ total + sumAccepted cs
+unfolding Promised totalFound sumAccepted
+exact-from total [] p = sym (add-zero total)
+exact-from total (c ∷ cs) p =
+    exact-from (c .total) cs (p .2)
+    ∙ ap (λ (n : ℕ). n + sumAccepted cs) (p .1 ∙ gains total (c .word) ∙ ap (λ (a : Outcome (Unit {0})). total + counted a (c .word)) (sym (p .0)))
+    ∙ add-assoc total (counted (c .answer) (c .word)) (sumAccepted cs)
+
+-- from 0: the record holds the exact sum of the accepted words
+pub exact : (cs : List Call) → Promised 0 cs → totalFound 0 cs ≡ sumAccepted cs
+exact cs p = exact-from 0 cs p ∙ zero-add (sumAccepted cs)
+
+-- the first calls of a run are a run
+pub first-calls : (total : ℕ) (cs ds : List Call) → Promised total (cs ++ ds) → Promised total cs
+unfolding Promised
+first-calls total [] ds p = tt
+first-calls total (c ∷ cs) ds p = (p .0, p .1, first-calls (c .total) cs ds (p .2))
+
+-- so it does after each call of a longer run
+pub exact-after-each : (cs ds : List Call) → Promised 0 (cs ++ ds) → totalFound 0 cs ≡ sumAccepted cs
+exact-after-each cs ds p = exact cs (first-calls 0 cs ds p)
+
+-- each answer is the one at the exact sum of the words accepted before
+pub answered-from : (total : ℕ) (cs : List Call) (c : Call) (ds : List Call) → Promised total (cs ++ (c ∷ ds))
+    → c .answer ≡ answerTo (totalFound total cs) (c .word)
+unfolding Promised totalFound
+answered-from total [] c ds p = p .0
+answered-from total (b ∷ cs) c ds p = answered-from (b .total) cs c ds (p .2)
+
+pub answered-at-sum : (cs : List Call) (c : Call) (ds : List Call) → Promised 0 (cs ++ (c ∷ ds))
+    → c .answer ≡ answerTo (sumAccepted cs) (c .word)
+answered-at-sum cs c ds p = answered-from 0 cs c ds p ∙ ap (λ (n : ℕ). answerTo n (c .word)) (exact-after-each cs (c ∷ ds) p)
+
+-- three wrong tallies that keep no such run: it adds the first word and then only nods; it wraps; it saturates
+abbrev taken-leaving : ℕ → ℕ → Call
+taken-leaving word total = record { word = word; answer = accepted tt; total = total }
+
+pub no-nodding : Promised 0 (taken-leaving 1 1000000 ∷ taken-leaving 1 1000000 ∷ []) → ⊥
+unfolding totalFound sumAccepted millionths power
+no-nodding p = let e : _≡_ {A = ℕ} 1000000 2000000 = exact _ p in omega arith
+
+pub no-wrapping : Promised (2 ^ 64 - 1) (taken-leaving 60001 0 ∷ []) → ⊥
+unfolding totalFound sumAccepted millionths power
+no-wrapping p = let e : _≡_ {A = ℕ} 0 (2 ^ 64) = exact-from (2 ^ 64 - 1) _ p in omega arith
+
+pub no-saturating : Promised (2 ^ 64 - 1) (taken-leaving 60001 (2 ^ 64 - 1) ∷ []) → ⊥
+unfolding totalFound sumAccepted millionths power
+no-saturating p = let e : _≡_ {A = ℕ} (2 ^ 64 - 1) (2 ^ 64) = exact-from (2 ^ 64 - 1) _ p in omega arith

@@ -1,0 +1,101 @@
+// Document 01, "Cost": the value of a cost word, and the tally, a record that the caller lends.
+ghost use mathlib.Core.Path.{_≡_};
+ghost use Rattle.tally.specs.Cost.{cost, millionths, power, costOf};
+ghost use Rattle.tally.specs.Total.{exactSum, nextTotal, nextOf, totalAfter, answerTo, addedOf};
+use answer::Refusal;
+
+// The largest cost word.
+const LARGEST_WORD: u16 = 65025;
+
+// The largest total.
+const LARGEST_TOTAL: u64 = 0xFFFF_FFFF_FFFF_FFFF;
+
+// The value of a cost word, or its refusal.
+pub enum Cost {
+    Millionths(u64),
+    Refused(Refusal),
+}
+
+// What adding a word to the tally answers.
+pub enum Added {
+    Taken,
+    Refused(Refusal),
+}
+
+// A total with a word added to it, or the refusal.
+enum Next {
+    Total(u64),
+    Refused(Refusal),
+}
+
+// The weight in millionths of a digit's unit, at a number of decimals.
+fn unit(decimals: u16) -> u64
+    ensures { λ r. ⌜ r ≡ power decimals ⌝ }
+{
+    match decimals {
+        0 => 1_000_000,
+        1 => 100_000,
+        2 => 10_000,
+        3 => 1_000,
+        4 => 100,
+        5 => 10,
+        _ => 1,
+    }
+}
+
+// The value of a cost word that is not refused.
+fn value(word: u16) -> u64
+    ensures { λ r. ⌜ r ≡ millionths word ⌝ }
+{
+    ((word % 10000) as u64) * unit(word / 10000)
+}
+
+// The value of a cost word in millionths.
+pub fn convert(word: u16) -> Cost
+    ensures { λ r. ⌜ costOf r ≡ cost word ⌝ }
+{
+    if LARGEST_WORD < word {
+        return Cost::Refused(Refusal::CostWord);
+    }
+    Cost::Millionths(value(word))
+}
+
+// A total with the value of a word added to it.
+fn next_total(total: u64, word: u16) -> Next
+    ensures { λ r. ⌜ nextOf r ≡ nextTotal total word ⌝ }
+{
+    match convert(word) {
+        Cost::Refused(r) => Next::Refused(r),
+        Cost::Millionths(v) => with_value(total, v),
+    }
+}
+
+// A total with a value added to it.
+fn with_value(total: u64, v: u64) -> Next
+    ensures { λ r. ⌜ nextOf r ≡ exactSum total v ⌝ }
+{
+    if LARGEST_TOTAL - total < v {
+        return Next::Refused(Refusal::Total);
+    }
+    Next::Total(total + v)
+}
+
+// The total that a word leaves: the same where it is refused.
+fn after(total: u64, word: u16) -> u64
+    ensures { λ r. ⌜ r ≡ totalAfter total word ⌝ }
+{
+    match next_total(total, word) {
+        Next::Total(next) => next,
+        Next::Refused(_) => total,
+    }
+}
+
+// What a word is answered at a total.
+fn answer_to(total: u64, word: u16) -> Added
+    ensures { λ r. ⌜ addedOf r ≡ answerTo total word ⌝ }
+{
+    match next_total(total, word) {
+        Next::Total(_) => Added::Taken,
+        Next::Refused(r) => Added::Refused(r),
+    }
+}
