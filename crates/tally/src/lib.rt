@@ -99,3 +99,19 @@ fn answer_to(total: u64, word: u16) -> Added
         Next::Refused(r) => Added::Refused(r),
     }
 }
+
+// The tally: the exact sum of the accepted words, in millionths.
+#[repr(C)]
+pub struct Tally {
+    pub total: u64,
+}
+
+// Adds a word to the tally. The total is stored in any case: the same where the word is refused.
+pub fn add(t: &mut Tally, word: u16) -> Added
+    ensures { λ r. ⌜ (addedOf r ≡ answerTo (now (t .entry) .total) word)
+        × (now (t .exit) .total ≡ totalAfter (now (t .entry) .total) word) ⌝ }
+{
+    let total = t.total;
+    t.total = after(total, word);
+    answer_to(total, word)
+}
