@@ -1,5 +1,6 @@
 -- The value of a cost word: its power of ten, its bound, and when it is refused. Assumes nothing.
-use mathlib.Core.Path.{_≡_, sym, ap}
+use mathlib.Core.Path.{_≡_, sym, ap, _∙_}
+use mathlib.Core.Bool.{Bool, true, false}
 use Prim.Native.Nat.{ℕ, zero, _+_, _*_, _/_, _%_, _-_, _^_, _≤_, _<_}
 use native.Mathlib.Nat.{pow-le-pow-right, mul-le-mul, mod-lt, mod-eq-of-lt}
 use native.Mathlib.Omega.{arith}
@@ -36,3 +37,15 @@ too-large word h = simp (lt-ltb 65025 word h)
 pub convertible : (word : ℕ) → word ≤ 65025 → cost word ≡ accepted (millionths word)
 unfolding cost tooLarge
 convertible word h = simp (le-ltb 65025 word h)
+
+-- what is accepted is the value, so it fits that field too
+pub accepted-value : (word v : ℕ) → cost word ≡ accepted v → v ≡ millionths word
+unfolding cost
+accepted-value word v e = by-test (tooLarge word) e
+  where
+    by-test : (large : Bool) → refuseIf large 10 (accepted (millionths word)) ≡ accepted v → v ≡ millionths word
+    by-test true e = cc
+    by-test false e = cc
+
+pub accepted-short : (word v : ℕ) → cost word ≡ accepted v → v % 2 ^ 56 ≡ v
+accepted-short word v e = let i = accepted-value word v e in ap (λ (n : ℕ). n % 2 ^ 56) i ∙ millionths-short word ∙ sym i
