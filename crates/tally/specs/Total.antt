@@ -17,17 +17,21 @@ unfoldable pub nextTotal : ℕ → ℕ → Outcome ℕ
 nextTotal total word = andThen (cost word) (exactSum total)
 
 -- what the record holds after an answer: the new total; after a refusal the old one
-abbrev pub kept : ℕ → Outcome ℕ → ℕ
-kept total (refused n) = total
-kept total (accepted next) = next
+abbrev pub keptAfter : ℕ → Outcome ℕ → ℕ
+keptAfter total (refused n) = total
+keptAfter total (accepted next) = next
+
+-- what the caller is told of an answer: the refusal, or that the word was taken
+abbrev pub toldOf : Outcome ℕ → Outcome (Unit {0})
+toldOf o = onAccepted (λ next. tt) o
 
 -- what the record holds after a word
 abbrev pub totalAfter : ℕ → ℕ → ℕ
-totalAfter total word = kept total (nextTotal total word)
+totalAfter total word = keptAfter total (nextTotal total word)
 
--- what the caller is told of a word: a refusal, or that it was taken
+-- what the caller is told of a word
 abbrev pub answerTo : ℕ → ℕ → Outcome (Unit {0})
-answerTo total word = onAccepted (λ next. tt) (nextTotal total word)
+answerTo total word = toldOf (nextTotal total word)
 
 -- what the code's answers say
 abbrev pub nextOf : Next → Outcome ℕ

@@ -1,7 +1,7 @@
 // Document 01, "Cost": the value of a cost word, and the tally, a record that the caller lends.
 ghost use mathlib.Core.Path.{_≡_};
 ghost use Rattle.tally.specs.Cost.{cost, millionths, power, costOf};
-ghost use Rattle.tally.specs.Total.{exactSum, nextTotal, nextOf, totalAfter, answerTo, addedOf};
+ghost use Rattle.tally.specs.Total.{exactSum, nextTotal, keptAfter, toldOf, totalAfter, answerTo, nextOf, addedOf};
 use answer::Refusal;
 
 // The largest cost word.
@@ -80,21 +80,21 @@ fn with_value(total: u64, v: u64) -> Next
     Next::Total(total + v)
 }
 
-// The total that a word leaves: the same where it is refused.
-fn after(total: u64, word: u16) -> u64
-    ensures { λ r. ⌜ r ≡ totalAfter total word ⌝ }
+// What the record holds after an addition: the same total where it is refused.
+fn kept(total: u64, next: Next) -> u64
+    ensures { λ r. ⌜ r ≡ keptAfter total (nextOf next) ⌝ }
 {
-    match next_total(total, word) {
-        Next::Total(next) => next,
+    match next {
+        Next::Total(sum) => sum,
         Next::Refused(_) => total,
     }
 }
 
-// What a word is answered at a total.
-fn answer_to(total: u64, word: u16) -> Added
-    ensures { λ r. ⌜ addedOf r ≡ answerTo total word ⌝ }
+// What the caller is told of an addition.
+fn told(next: Next) -> Added
+    ensures { λ r. ⌜ addedOf r ≡ toldOf (nextOf next) ⌝ }
 {
-    match next_total(total, word) {
+    match next {
         Next::Total(_) => Added::Taken,
         Next::Refused(r) => Added::Refused(r),
     }
@@ -112,6 +112,7 @@ pub fn add(t: &mut Tally, word: u16) -> Added
         × (now (t .exit) .total ≡ totalAfter (now (t .entry) .total) word) ⌝ }
 {
     let total = t.total;
-    t.total = after(total, word);
-    answer_to(total, word)
+    let next = next_total(total, word);
+    t.total = kept(total, next);
+    told(next)
 }

@@ -6,26 +6,22 @@ use Prim.Native.Nat.{ℕ, _+_, _-_, _^_}
 use native.Mathlib.Nat.{add-zero, zero-add, add-assoc}
 use native.Mathlib.Omega.{arith}
 use lib.Dec.{ltb}
-use Rattle.answer.specs.Answer.{Outcome, refused, accepted, refuseIf, andThen, onAccepted}
+use Rattle.answer.specs.Answer.{Outcome, refused, accepted, refuseIf, andThen}
 use Rattle.tally.specs.Cost.{cost, millionths, tooLarge, power}
-use Rattle.tally.specs.Total.{exactSum, nextTotal, kept, totalAfter, answerTo}
+use Rattle.tally.specs.Total.{exactSum, nextTotal, keptAfter, toldOf, totalAfter, answerTo}
 use Rattle.tally.specs.Run.{Call, Promised, totalFound, counted, sumAccepted}
-
--- the answer told, of the sum
-abbrev told : Outcome ℕ → Outcome (Unit {0})
-told o = onAccepted (λ (next : ℕ). tt) o
 
 -- one word: what the record gains is what the word counts, by its answer
 module _ (total word : ℕ) where
   gains-sum : (past : Bool)
-      → kept total (refuseIf past 11 (accepted (total + millionths word)))
-      ≡ total + counted (told (refuseIf past 11 (accepted (total + millionths word)))) word
+      → keptAfter total (refuseIf past 11 (accepted (total + millionths word)))
+      ≡ total + counted (toldOf (refuseIf past 11 (accepted (total + millionths word)))) word
   gains-sum true = sym (add-zero total)
   gains-sum false = refl
 
   gains-word : (large : Bool)
-      → kept total (andThen (refuseIf large 10 (accepted (millionths word))) (exactSum total))
-      ≡ total + counted (told (andThen (refuseIf large 10 (accepted (millionths word))) (exactSum total))) word
+      → keptAfter total (andThen (refuseIf large 10 (accepted (millionths word))) (exactSum total))
+      ≡ total + counted (toldOf (andThen (refuseIf large 10 (accepted (millionths word))) (exactSum total))) word
   unfolding exactSum
   gains-word true = sym (add-zero total)
   gains-word false = gains-sum (ltb (2 ^ 64 - 1) (total + millionths word))

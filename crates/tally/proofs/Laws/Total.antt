@@ -2,14 +2,12 @@
 use mathlib.Core.Path.{_≡_, sym, ap, _∙_}
 use Prim.Native.Nat.{ℕ, _+_, _-_, _^_, _≤_, _<_}
 use borrow.Author.Tests.{lt-ltb, le-ltb}
-use Rattle.answer.specs.Answer.{Outcome, refused, accepted, refuseIf, andThen, onAccepted, numberOf}
+use Rattle.answer.specs.Answer.{Outcome, refused, accepted, refuseIf, andThen, numberOf}
 use Rattle.answer.specs.declared.Refusal.{Refusal}
 use Rattle.tally.specs.Cost.{cost, costOf, millionths}
-use Rattle.tally.specs.Total.{exactSum, nextTotal, nextOf, kept, totalAfter, answerTo}
+use Rattle.tally.specs.Total.{exactSum, nextTotal}
 use Rattle.tally.specs.declared.Cost.{Cost}
 use Rattle.tally.specs.declared.Cost.the-variants.{Millionths, Refused as CostRefused}
-use Rattle.tally.specs.declared.Next.{Next}
-use Rattle.tally.specs.declared.Next.the-variants.{Total, Refused as NextRefused}
 use Rattle.tally.proofs.Laws.Cost.{too-large, convertible}
 
 module _ (total v : ℕ) where
@@ -31,20 +29,6 @@ module _ (total word : ℕ) where
     pub next-of : (v : ℕ) → r ≡ Millionths v → exactSum total v ≡ nextTotal total word
     unfolding nextTotal
     next-of v e = ap (λ (o : Outcome ℕ). andThen o (exactSum total)) (sym (ap costOf e) ∙ known)
-
-  -- by what the sum answers: what the record holds, and what the caller is told
-  module _ {r : Next} (known : nextOf r ≡ nextTotal total word) where
-    pub taken-holds : (next : ℕ) → r ≡ Total next → next ≡ totalAfter total word
-    taken-holds next e = ap (kept total) (sym (ap nextOf e) ∙ known)
-
-    pub refused-holds : (n : Refusal) → r ≡ NextRefused n → total ≡ totalAfter total word
-    refused-holds n e = ap (kept total) (sym (ap nextOf e) ∙ known)
-
-    pub taken-told : (next : ℕ) → r ≡ Total next → accepted tt ≡ answerTo total word
-    taken-told next e = ap (onAccepted (λ (next : ℕ). tt)) (sym (ap nextOf e) ∙ known)
-
-    pub refused-told : (n : Refusal) → r ≡ NextRefused n → refused (numberOf n) ≡ answerTo total word
-    refused-told n e = ap (onAccepted (λ (next : ℕ). tt)) (sym (ap nextOf e) ∙ known)
 
 -- the three cases of a word at a total, in the order of the checks
 module _ (total word : ℕ) where
