@@ -13,9 +13,12 @@ pub power-at : {p : ℕ} (k : ℕ) → p ≡ k → 10 ^ (6 - k) ≡ power p
 unfolding power
 power-at k e = ap power (sym e)
 
-pub power-past : (p : ℕ) → 6 ≤ p → 1 ≡ power p
+power-past : (p : ℕ) → 6 ≤ p → 1 ≡ power p
 unfolding power
 power-past p h = let e : 6 - p ≡ 0 = omega arith in ap (λ (n : ℕ). 10 ^ n) (sym e)
+
+pub power-other : (p : ℕ) → (p ≡ 0 → ⊥) → (p ≡ 1 → ⊥) → (p ≡ 2 → ⊥) → (p ≡ 3 → ⊥) → (p ≡ 4 → ⊥) → (p ≡ 5 → ⊥) → 1 ≡ power p
+power-other p n0 n1 n2 n3 n4 n5 = power-past p (omega arith)
 
 pub power-most : (p : ℕ) → power p ≤ 1000000
 unfolding power

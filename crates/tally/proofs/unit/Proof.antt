@@ -1,5 +1,4 @@
-use native.Mathlib.Omega.{arith}
-use Rattle.tally.proofs.Laws.Cost.{power-at, power-past}
+use Rattle.tally.proofs.Laws.Cost.{power-at, power-other}
 use Rattle.tally.proofs.unit.Statement.{statement}
 use Rattle.tally.proofs.unit.Tie as tie
 
@@ -22,18 +21,15 @@ returns-6 : tie.Need-returns-6
 returns-6 c = power-at 5 (c .match .keys6)
 
 returns-7 : tie.Need-returns-7
-returns-7 c =
-    power-past (c .before .args .decimals)
-    (omega (
-      arith,
-      c .match .rest .0 .0 .0 .0 .0 .1,
-      c .match .rest .0 .0 .0 .0 .1,
-      c .match .rest .0 .0 .0 .1,
-      c .match .rest .0 .0 .1,
-      c .match .rest .0 .1,
-      c .match .rest .1,
-    ))
+returns-7 c = power-at 6 (c .match .keys7)
+
+returns-8 : tie.Need-returns-8
+returns-8 c =
+    let rest = c .match .rest .0 in
+    power-other (c .before .args .decimals) (rest .0 .0 .0 .0 .0 .1) (rest .0 .0 .0 .0 .1) (rest .0 .0 .0 .1) (rest .0 .0 .1)
+    (rest .0 .1)
+    (rest .1)
 
 pub unit-spec : {M : Type 1} → statement M
 unit-spec =
-    tie.close (tie.spec returns returns-2 returns-3 returns-4 returns-5 returns-6 returns-7)
+    tie.close (tie.spec returns returns-2 returns-3 returns-4 returns-5 returns-6 returns-7 returns-8)
