@@ -10,10 +10,16 @@ const LARGEST_WORD: u16 = 65025;
 // The largest total.
 const LARGEST_TOTAL: u64 = 0xFFFF_FFFF_FFFF_FFFF;
 
-// The value of a cost word, or its refusal.
+// The value of a cost word, or the refusal.
 pub enum Cost {
     Millionths(u64),
     Refused(Refusal),
+}
+
+// The tally: the exact sum of the accepted words, in millionths. It starts at 0.
+#[repr(C)]
+pub struct Tally {
+    pub total: u64,
 }
 
 // What adding a word to the tally answers.
@@ -22,14 +28,14 @@ pub enum Added {
     Refused(Refusal),
 }
 
-// A total with a word added to it, or the refusal.
+// The total with a word added to it, or the refusal.
 enum Next {
     Total(u64),
     Refused(Refusal),
 }
 
-// The weight in millionths of a digit's unit, at a number of decimals.
-fn unit(decimals: u16) -> u64
+// What the last digit counts in millionths, at a number of decimals. A word has at most 6; their own arms make a table of them.
+fn power(decimals: u16) -> u64
     ensures { λ r. ⌜ r ≡ power decimals ⌝ }
 {
     match decimals {
@@ -44,41 +50,41 @@ fn unit(decimals: u16) -> u64
     }
 }
 
-// The value of a cost word that is not refused.
-fn value(word: u16) -> u64
+// The value of a cost word, where it is not refused.
+fn millionths(word: u16) -> u64
     ensures { λ r. ⌜ r ≡ millionths word ⌝ }
 {
-    ((word % 10000) as u64) * unit(word / 10000)
+    ((word % 10000) as u64) * power(word / 10000)
 }
 
-// The value of a cost word in millionths.
+// The conversion of a cost word.
 pub fn convert(word: u16) -> Cost
     ensures { λ r. ⌜ costOf r ≡ cost word ⌝ }
 {
     if LARGEST_WORD < word {
         return Cost::Refused(Refusal::CostWord);
     }
-    Cost::Millionths(value(word))
+    Cost::Millionths(millionths(word))
 }
 
-// A total with the value of a word added to it.
-fn next_total(total: u64, word: u16) -> Next
-    ensures { λ r. ⌜ nextOf r ≡ nextTotal total word ⌝ }
-{
-    match convert(word) {
-        Cost::Refused(r) => Next::Refused(r),
-        Cost::Millionths(v) => with_value(total, v),
-    }
-}
-
-// A total with a value added to it.
-fn with_value(total: u64, v: u64) -> Next
+// A value added to a total.
+fn exact_sum(total: u64, v: u64) -> Next
     ensures { λ r. ⌜ nextOf r ≡ exactSum total v ⌝ }
 {
     if LARGEST_TOTAL - total < v {
         return Next::Refused(Refusal::Total);
     }
     Next::Total(total + v)
+}
+
+// A word added to a total: the word is checked before the sum.
+fn next_total(total: u64, word: u16) -> Next
+    ensures { λ r. ⌜ nextOf r ≡ nextTotal total word ⌝ }
+{
+    match convert(word) {
+        Cost::Refused(r) => Next::Refused(r),
+        Cost::Millionths(v) => exact_sum(total, v),
+    }
 }
 
 // What the record holds after an addition: the same total where it is refused.
@@ -99,12 +105,6 @@ fn told(next: Next) -> Added
         Next::Total(_) => Added::Taken,
         Next::Refused(r) => Added::Refused(r),
     }
-}
-
-// The tally: the exact sum of the accepted words, in millionths.
-#[repr(C)]
-pub struct Tally {
-    pub total: u64,
 }
 
 // Adds a word to the tally. The total is stored in any case: the same where the word is refused.

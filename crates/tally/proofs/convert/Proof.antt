@@ -7,11 +7,11 @@ use Rattle.tally.proofs.convert.Tie as tie
 returns : tie.Need-returns
 returns c = sym (too-large _ (c .if1 .taken))
 
-value-requires : tie.Need-value-requires
-value-requires c κs = search needs
+millionths-requires : tie.Need-millionths-requires
+millionths-requires c κs = search needs
 
 returns-2 : tie.Need-returns-2
 returns-2 c = cc (convertible _ (c .before .if1 .left))
 
 pub convert-spec : {M : Type 1} → statement M
-convert-spec = tie.close (tie.spec returns value-requires returns-2)
+convert-spec = tie.close (tie.spec returns millionths-requires returns-2)

@@ -13,17 +13,17 @@ enum-known-r c = search needs
 enum-known-v : tie.Need-enum-known-v
 enum-known-v c = search needs
 
-with-value-requires : tie.Need-with-value-requires
-with-value-requires c κs = search needs
+exact-sum-requires : tie.Need-exact-sum-requires
+exact-sum-requires c κs = search needs
 
 returns : tie.Need-returns
 returns c = next-refused _ _ (c .before .before .before .convert .ensures) _ (c .before .r .given .1)
 
 returns-2 : tie.Need-returns-2
 returns-2 c =
-    c .with-value .ensures ∙ next-of _ _ (c .before .before .before .before .convert .ensures) _ (c .before .before .v .given .1)
+    c .exact-sum .ensures ∙ next-of _ _ (c .before .before .before .before .convert .ensures) _ (c .before .before .v .given .1)
 
 pub next-total-spec : {M : Type 1} → statement M
 next-total-spec =
     tie.close
-    (tie.spec convert-requires enum-known-r enum-known-v with-value-requires returns returns-2)
+    (tie.spec convert-requires enum-known-r enum-known-v exact-sum-requires returns returns-2)

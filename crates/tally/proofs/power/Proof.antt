@@ -1,6 +1,6 @@
 use Rattle.tally.proofs.Laws.Cost.{power-at, power-other}
-use Rattle.tally.proofs.unit.Statement.{statement}
-use Rattle.tally.proofs.unit.Tie as tie
+use Rattle.tally.proofs.power.Statement.{statement}
+use Rattle.tally.proofs.power.Tie as tie
 
 returns : tie.Need-returns
 returns c = power-at 0 (c .match .keys1)
@@ -30,6 +30,6 @@ returns-8 c =
     (rest .0 .1)
     (rest .1)
 
-pub unit-spec : {M : Type 1} → statement M
-unit-spec =
+pub power-spec : {M : Type 1} → statement M
+power-spec =
     tie.close (tie.spec returns returns-2 returns-3 returns-4 returns-5 returns-6 returns-7 returns-8)

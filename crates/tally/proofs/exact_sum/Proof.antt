@@ -2,8 +2,8 @@ use mathlib.Core.Path.{sym}
 use native.Mathlib.Omega.{arith}
 use Rattle.tally.proofs.Laws.Total.{passes, fits}
 use borrow.Author.Needs.{needs}
-use Rattle.tally.proofs.with_value.Statement.{statement}
-use Rattle.tally.proofs.with_value.Tie as tie
+use Rattle.tally.proofs.exact_sum.Statement.{statement}
+use Rattle.tally.proofs.exact_sum.Tie as tie
 
 sub-if1 : tie.Need-sub-if1
 sub-if1 c = search needs
@@ -17,5 +17,5 @@ add-t3 c = search needs
 returns-2 : tie.Need-returns-2
 returns-2 c = sym (fits _ _ (omega arith))
 
-pub with-value-spec : {M : Type 1} → statement M
-with-value-spec = tie.close (tie.spec sub-if1 returns add-t3 returns-2)
+pub exact-sum-spec : {M : Type 1} → statement M
+exact-sum-spec = tie.close (tie.spec sub-if1 returns add-t3 returns-2)
