@@ -1,34 +1,22 @@
 -- Over any run of words from 0 the record holds, after each call, the exact sum of the words accepted so far. Assumes nothing.
 use mathlib.Core.Path.{_≡_, refl, sym, ap, _∙_}
-use mathlib.Core.Bool.{Bool, true, false}
 use mathlib.Core.List.{List, [], _∷_, _++_}
 use Prim.Native.Nat.{ℕ, _+_, _-_, _^_}
 use native.Mathlib.Nat.{add-zero, zero-add, add-assoc}
 use native.Mathlib.Omega.{arith}
-use lib.Dec.{ltb}
-use Rattle.answer.specs.Answer.{Outcome, refused, accepted, refuseIf, andThen}
-use Rattle.tally.specs.Cost.{cost, millionths, tooLarge, power}
-use Rattle.tally.specs.Total.{exactSum, nextTotal, keptAfter, toldOf, totalAfter, answerTo}
+use Rattle.answer.specs.Answer.{Outcome, refused, accepted}
+use Rattle.tally.specs.Cost.{millionths, power}
+use Rattle.tally.specs.Total.{nextTotal, keptAfter, toldOf, totalAfter, answerTo}
 use Rattle.tally.specs.Run.{Call, Promised, totalFound, counted, sumAccepted}
+use Rattle.tally.proofs.Laws.Total.{accepted-exact}
 
 -- one word: what the record gains is what the word counts, by its answer
-module _ (total word : ℕ) where
-  gains-sum : (past : Bool)
-      → keptAfter total (refuseIf past 11 (accepted (total + millionths word)))
-      ≡ total + counted (toldOf (refuseIf past 11 (accepted (total + millionths word)))) word
-  gains-sum true = sym (add-zero total)
-  gains-sum false = refl
-
-  gains-word : (large : Bool)
-      → keptAfter total (andThen (refuseIf large 10 (accepted (millionths word))) (exactSum total))
-      ≡ total + counted (toldOf (andThen (refuseIf large 10 (accepted (millionths word))) (exactSum total))) word
-  unfolding exactSum
-  gains-word true = sym (add-zero total)
-  gains-word false = gains-sum (ltb (2 ^ 64 - 1) (total + millionths word))
-
-  pub gains : totalAfter total word ≡ total + counted (answerTo total word) word
-  unfolding nextTotal cost
-  gains = gains-word (tooLarge word)
+gains : (total word : ℕ) → totalAfter total word ≡ total + counted (answerTo total word) word
+gains total word = by-answer (nextTotal total word) refl
+  where
+    by-answer : (o : Outcome ℕ) → nextTotal total word ≡ o → keptAfter total o ≡ total + counted (toldOf o) word
+    by-answer (refused n) e = sym (add-zero total)
+    by-answer (accepted next) e = accepted-exact total word next e
 
 -- a run of calls from any total: the record gains the exact sum of the accepted words
 pub exact-from : (total : ℕ) (cs : List Call) → Promised total cs → totalFound total cs ≡ total + sumAccepted cs
