@@ -4,7 +4,7 @@ ghost use mathlib.Core.List.{[], _∷_};
 ghost use Rattle.answer.specs.Answer.{onAccepted};
 ghost use Rattle.answer.specs.Packed.{packed, field};
 ghost use Rattle.tally.specs.Cost.{cost};
-ghost use Rattle.tally.specs.Total.{answerTo, totalAfter, addedOf};
+ghost use Rattle.tally.specs.Total.{nextTotal, totalAfter, addedOf};
 use tally::Added;
 use tally::Cost;
 use tally::Tally;
@@ -22,10 +22,10 @@ pub extern "C" fn cost_millionths(word: u16) -> u64
 
 // The packed answer of an addition.
 fn pack_added(added: Added) -> u64
-    ensures { λ n. ⌜ n ≡ packed (onAccepted (λ taken. []) (addedOf added)) ⌝ }
+    ensures { λ n. ⌜ n ≡ packed (onAccepted (λ total. []) (addedOf added)) ⌝ }
 {
     match added {
-        Added::Taken => answer::pack_nothing(),
+        Added::Total(_) => answer::pack_nothing(),
         Added::Refused(r) => answer::pack_refusal(r),
     }
 }
@@ -33,7 +33,7 @@ fn pack_added(added: Added) -> u64
 // Adds a cost word to the lent tally.
 #[no_mangle]
 pub extern "C" fn tally_add(t: &mut Tally, word: u16) -> u64
-    ensures { λ n. ⌜ (n ≡ packed (onAccepted (λ taken. []) (answerTo (now (t .entry) .total) word)))
+    ensures { λ n. ⌜ (n ≡ packed (onAccepted (λ total. []) (nextTotal (now (t .entry) .total) word)))
         × (now (t .exit) .total ≡ totalAfter (now (t .entry) .total) word) ⌝ }
 {
     pack_added(tally::add(t, word))

@@ -1,12 +1,10 @@
 -- Document 01, "Cost": the tally's total, and one word added to it.
 use Prim.Native.Nat.{ℕ, _+_, _-_, _^_}
 use lib.Dec.{ltb}
-use Rattle.answer.specs.Answer.{Outcome, refused, accepted, refuseIf, andThen, onAccepted, numberOf}
+use Rattle.answer.specs.Answer.{Outcome, refused, accepted, refuseIf, andThen, numberOf}
 use Rattle.tally.specs.Cost.{cost}
 use Rattle.tally.specs.declared.Added.{Added}
-use Rattle.tally.specs.declared.Added.the-variants.{Taken, Refused}
-use Rattle.tally.specs.declared.Next.{Next}
-use Rattle.tally.specs.declared.Next.the-variants.{Total, Refused as NextRefused}
+use Rattle.tally.specs.declared.Added.the-variants.{Total, Refused}
 
 -- the exact sum of a total and a value, or 11 where it would pass 2^64 - 1
 unfoldable pub exactSum : ℕ → ℕ → Outcome ℕ
@@ -21,23 +19,11 @@ abbrev pub keptAfter : ℕ → Outcome ℕ → ℕ
 keptAfter total (refused n) = total
 keptAfter total (accepted next) = next
 
--- what the caller is told of an answer: the refusal, or that the word was taken
-abbrev pub toldOf : Outcome ℕ → Outcome (Unit {0})
-toldOf o = onAccepted (λ next. tt) o
-
 -- what the record holds after a word
 abbrev pub totalAfter : ℕ → ℕ → ℕ
 totalAfter total word = keptAfter total (nextTotal total word)
 
--- what the caller is told of a word
-abbrev pub answerTo : ℕ → ℕ → Outcome (Unit {0})
-answerTo total word = toldOf (nextTotal total word)
-
--- what the code's answers say
-abbrev pub nextOf : Next → Outcome ℕ
-nextOf (Total total) = accepted total
-nextOf (NextRefused r) = refused (numberOf r)
-
-abbrev pub addedOf : Added → Outcome (Unit {0})
-addedOf Taken = accepted tt
+-- what the code's answer says
+abbrev pub addedOf : Added → Outcome ℕ
+addedOf (Total total) = accepted total
 addedOf (Refused r) = refused (numberOf r)

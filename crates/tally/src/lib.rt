@@ -1,7 +1,7 @@
 // Document 01, "Cost": the value of a cost word, and the tally, a record that the caller lends.
 ghost use mathlib.Core.Path.{_≡_};
 ghost use Rattle.tally.specs.Cost.{cost, millionths, power, costOf};
-ghost use Rattle.tally.specs.Total.{exactSum, nextTotal, keptAfter, toldOf, totalAfter, answerTo, nextOf, addedOf};
+ghost use Rattle.tally.specs.Total.{nextTotal, keptAfter, totalAfter, addedOf};
 use answer::Refusal;
 
 // The largest cost word.
@@ -22,14 +22,8 @@ pub struct Tally {
     pub total: u64,
 }
 
-// What adding a word to the tally answers.
+// What adding a word to the tally answers: the new total, or the refusal.
 pub enum Added {
-    Taken,
-    Refused(Refusal),
-}
-
-// The total with a word added to it, or the refusal.
-enum Next {
     Total(u64),
     Refused(Refusal),
 }
@@ -67,53 +61,40 @@ pub fn convert(word: u16) -> Cost
     Cost::Millionths(millionths(word))
 }
 
-// A value added to a total.
-fn exact_sum(total: u64, v: u64) -> Next
-    ensures { λ r. ⌜ nextOf r ≡ exactSum total v ⌝ }
-{
-    if LARGEST_TOTAL - total < v {
-        return Next::Refused(Refusal::Total);
-    }
-    Next::Total(total + v)
-}
-
 // A word added to a total: the word is checked before the sum.
-fn next_total(total: u64, word: u16) -> Next
-    ensures { λ r. ⌜ nextOf r ≡ nextTotal total word ⌝ }
+fn next_total(total: u64, word: u16) -> Added
+    ensures { λ r. ⌜ addedOf r ≡ nextTotal total word ⌝ }
 {
     match convert(word) {
-        Cost::Refused(r) => Next::Refused(r),
-        Cost::Millionths(v) => exact_sum(total, v),
+        Cost::Refused(r) => {
+            return Added::Refused(r);
+        }
+        Cost::Millionths(v) => {
+            if LARGEST_TOTAL - total < v {
+                return Added::Refused(Refusal::Total);
+            }
+            return Added::Total(total + v);
+        }
     }
 }
 
 // What the record holds after an addition: the same total where it is refused.
-fn kept(total: u64, next: Next) -> u64
-    ensures { λ r. ⌜ r ≡ keptAfter total (nextOf next) ⌝ }
+fn kept(total: u64, added: Added) -> u64
+    ensures { λ r. ⌜ r ≡ keptAfter total (addedOf added) ⌝ }
 {
-    match next {
-        Next::Total(sum) => sum,
-        Next::Refused(_) => total,
+    match added {
+        Added::Total(next) => next,
+        Added::Refused(_) => total,
     }
 }
 
-// What the caller is told of an addition.
-fn told(next: Next) -> Added
-    ensures { λ r. ⌜ addedOf r ≡ toldOf (nextOf next) ⌝ }
-{
-    match next {
-        Next::Total(_) => Added::Taken,
-        Next::Refused(r) => Added::Refused(r),
-    }
-}
-
-// Adds a word to the tally. The total is stored in any case: the same where the word is refused.
+// Adds a word to the tally. A total is stored in any case: the same one where the word is refused.
 pub fn add(t: &mut Tally, word: u16) -> Added
-    ensures { λ r. ⌜ (addedOf r ≡ answerTo (now (t .entry) .total) word)
+    ensures { λ r. ⌜ (addedOf r ≡ nextTotal (now (t .entry) .total) word)
         × (now (t .exit) .total ≡ totalAfter (now (t .entry) .total) word) ⌝ }
 {
     let total = t.total;
-    let next = next_total(total, word);
-    t.total = kept(total, next);
-    told(next)
+    let added = next_total(total, word);
+    t.total = kept(total, added);
+    added
 }

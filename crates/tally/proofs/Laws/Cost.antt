@@ -1,12 +1,12 @@
 -- The value of a cost word: its power of ten, its bound, and when it is refused. Assumes nothing.
 use mathlib.Core.Path.{_≡_, sym, ap, _∙_}
 use mathlib.Core.Bool.{Bool, true, false}
-use Prim.Native.Nat.{ℕ, zero, _+_, _*_, _/_, _%_, _-_, _^_, _≤_, _<_}
-use native.Mathlib.Nat.{pow-le-pow-right, mul-le-mul, mod-lt, mod-eq-of-lt}
+use Prim.Native.Nat.{ℕ, _%_, _-_, _^_, _≤_, _<_}
+use native.Mathlib.Nat.{pow-le-pow-right, mul-le-mul, mod-eq-of-lt}
 use native.Mathlib.Omega.{arith}
-use borrow.Author.Tests.{lt-ltb, le-ltb}
 use lib.Dec.{lit<}
-use Rattle.answer.specs.Answer.{Outcome, refused, accepted, refuseIf}
+use Rattle.answer.specs.Answer.{refused, accepted, refuseIf}
+use Rattle.answer.proofs.Laws.Test.{below, not-below}
 use Rattle.tally.specs.Cost.{cost, millionths, power, tooLarge, decimals}
 
 pub power-at : {p : ℕ} (k : ℕ) → p ≡ k → 10 ^ (6 - k) ≡ power p
@@ -35,11 +35,11 @@ millionths-short word = mod-eq-of-lt (omega (arith, millionths-most word))
 
 pub too-large : (word : ℕ) → 65025 < word → cost word ≡ refused 10
 unfolding cost tooLarge
-too-large word h = simp (lt-ltb 65025 word h)
+too-large word h = below 10 (accepted (millionths word)) 65025 word h
 
 pub convertible : (word : ℕ) → word ≤ 65025 → cost word ≡ accepted (millionths word)
 unfolding cost tooLarge
-convertible word h = simp (le-ltb 65025 word h)
+convertible word h = not-below 10 (accepted (millionths word)) 65025 word h
 
 -- what is accepted is the value, so it fits that field too
 pub accepted-value : (word v : ℕ) → cost word ≡ accepted v → v ≡ millionths word

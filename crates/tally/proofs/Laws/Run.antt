@@ -6,15 +6,15 @@ use native.Mathlib.Nat.{add-zero, zero-add, add-assoc}
 use native.Mathlib.Omega.{arith}
 use Rattle.answer.specs.Answer.{Outcome, refused, accepted}
 use Rattle.tally.specs.Cost.{millionths, power}
-use Rattle.tally.specs.Total.{nextTotal, keptAfter, toldOf, totalAfter, answerTo}
+use Rattle.tally.specs.Total.{nextTotal, keptAfter, totalAfter}
 use Rattle.tally.specs.Run.{Call, Promised, totalFound, counted, sumAccepted}
 use Rattle.tally.proofs.Laws.Total.{accepted-exact}
 
 -- one word: what the record gains is what the word counts, by its answer
-gains : (total word : ℕ) → totalAfter total word ≡ total + counted (answerTo total word) word
+gains : (total word : ℕ) → totalAfter total word ≡ total + counted (nextTotal total word) word
 gains total word = by-answer (nextTotal total word) refl
   where
-    by-answer : (o : Outcome ℕ) → nextTotal total word ≡ o → keptAfter total o ≡ total + counted (toldOf o) word
+    by-answer : (o : Outcome ℕ) → nextTotal total word ≡ o → keptAfter total o ≡ total + counted o word
     by-answer (refused n) e = sym (add-zero total)
     by-answer (accepted next) e = accepted-exact total word next e
 
@@ -24,7 +24,7 @@ unfolding Promised totalFound sumAccepted
 exact-from total [] p = sym (add-zero total)
 exact-from total (c ∷ cs) p =
     exact-from (c .total) cs (p .2)
-    ∙ ap (λ (n : ℕ). n + sumAccepted cs) (p .1 ∙ gains total (c .word) ∙ ap (λ (a : Outcome (Unit {0})). total + counted a (c .word)) (sym (p .0)))
+    ∙ ap (λ (n : ℕ). n + sumAccepted cs) (p .1 ∙ gains total (c .word) ∙ ap (λ (a : Outcome ℕ). total + counted a (c .word)) (sym (p .0)))
     ∙ add-assoc total (counted (c .answer) (c .word)) (sumAccepted cs)
 
 -- from 0: the record holds the exact sum of the accepted words
@@ -43,27 +43,27 @@ exact-after-each cs ds p = exact cs (first-calls 0 cs ds p)
 
 -- each answer is the one at the exact sum of the words accepted before
 pub answered-from : (total : ℕ) (cs : List Call) (c : Call) (ds : List Call) → Promised total (cs ++ (c ∷ ds))
-    → c .answer ≡ answerTo (totalFound total cs) (c .word)
+    → c .answer ≡ nextTotal (totalFound total cs) (c .word)
 unfolding Promised totalFound
 answered-from total [] c ds p = p .0
 answered-from total (b ∷ cs) c ds p = answered-from (b .total) cs c ds (p .2)
 
 pub answered-at-sum : (cs : List Call) (c : Call) (ds : List Call) → Promised 0 (cs ++ (c ∷ ds))
-    → c .answer ≡ answerTo (sumAccepted cs) (c .word)
-answered-at-sum cs c ds p = answered-from 0 cs c ds p ∙ ap (λ (n : ℕ). answerTo n (c .word)) (exact-after-each cs (c ∷ ds) p)
+    → c .answer ≡ nextTotal (sumAccepted cs) (c .word)
+answered-at-sum cs c ds p = answered-from 0 cs c ds p ∙ ap (λ (n : ℕ). nextTotal n (c .word)) (exact-after-each cs (c ∷ ds) p)
 
--- three wrong tallies that keep no such run: it adds the first word and then only nods; it wraps; it saturates
-abbrev taken-leaving : ℕ → ℕ → Call
-taken-leaving word total = record { word = word; answer = accepted tt; total = total }
+-- three wrong tallies that keep no such run, whatever total they answer: one adds the first word and then only nods; one wraps; one saturates
+abbrev taken-leaving : ℕ → ℕ → ℕ → Call
+taken-leaving word said total = record { word = word; answer = accepted said; total = total }
 
-pub no-nodding : Promised 0 (taken-leaving 1 1000000 ∷ taken-leaving 1 1000000 ∷ []) → ⊥
+pub no-nodding : (a b : ℕ) → Promised 0 (taken-leaving 1 a 1000000 ∷ taken-leaving 1 b 1000000 ∷ []) → ⊥
 unfolding totalFound sumAccepted millionths power
-no-nodding p = let e : _≡_ {A = ℕ} 1000000 2000000 = exact _ p in omega arith
+no-nodding a b p = let e : _≡_ {A = ℕ} 1000000 2000000 = exact _ p in omega arith
 
-pub no-wrapping : Promised (2 ^ 64 - 1) (taken-leaving 60001 0 ∷ []) → ⊥
+pub no-wrapping : (a : ℕ) → Promised (2 ^ 64 - 1) (taken-leaving 60001 a 0 ∷ []) → ⊥
 unfolding totalFound sumAccepted millionths power
-no-wrapping p = let e : _≡_ {A = ℕ} 0 (2 ^ 64) = exact-from (2 ^ 64 - 1) _ p in omega arith
+no-wrapping a p = let e : _≡_ {A = ℕ} 0 (2 ^ 64) = exact-from (2 ^ 64 - 1) _ p in omega arith
 
-pub no-saturating : Promised (2 ^ 64 - 1) (taken-leaving 60001 (2 ^ 64 - 1) ∷ []) → ⊥
+pub no-saturating : (a : ℕ) → Promised (2 ^ 64 - 1) (taken-leaving 60001 a (2 ^ 64 - 1) ∷ []) → ⊥
 unfolding totalFound sumAccepted millionths power
-no-saturating p = let e : _≡_ {A = ℕ} (2 ^ 64 - 1) (2 ^ 64) = exact-from (2 ^ 64 - 1) _ p in omega arith
+no-saturating a p = let e : _≡_ {A = ℕ} (2 ^ 64 - 1) (2 ^ 64) = exact-from (2 ^ 64 - 1) _ p in omega arith

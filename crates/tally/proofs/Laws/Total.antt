@@ -3,9 +3,9 @@ use mathlib.Core.Path.{_≡_, refl, sym, ap, _∙_}
 use mathlib.Core.Bool.{Bool, true, false}
 use Prim.Native.Nat.{ℕ, _+_, _-_, _^_, _≤_, _<_}
 use lib.Dec.{ltb}
-use borrow.Author.Tests.{lt-ltb, le-ltb}
 use Rattle.answer.specs.Answer.{Outcome, refused, accepted, refuseIf, andThen, numberOf}
 use Rattle.answer.specs.declared.Refusal.{Refusal}
+use Rattle.answer.proofs.Laws.Test.{below, not-below}
 use Rattle.tally.specs.Cost.{cost, costOf, millionths}
 use Rattle.tally.specs.Total.{exactSum, nextTotal}
 use Rattle.tally.specs.declared.Cost.{Cost}
@@ -16,11 +16,11 @@ use Rattle.tally.proofs.Laws.Cost.{too-large, convertible, accepted-val
 module _ (total v : ℕ) where
   pub passes : 2 ^ 64 - 1 < total + v → exactSum total v ≡ refused 11
   unfolding exactSum
-  passes h = simp (lt-ltb (2 ^ 64 - 1) (total + v) h)
+  passes h = below 11 (accepted (total + v)) (2 ^ 64 - 1) (total + v) h
 
   pub fits : total + v ≤ 2 ^ 64 - 1 → exactSum total v ≡ accepted (total + v)
   unfolding exactSum
-  fits h = simp (le-ltb (2 ^ 64 - 1) (total + v) h)
+  fits h = not-below 11 (accepted (total + v)) (2 ^ 64 - 1) (total + v) h
 
   accepted-sum : (next : ℕ) → exactSum total v ≡ accepted next → next ≡ total + v
   unfolding exactSum

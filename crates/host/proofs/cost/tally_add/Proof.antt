@@ -35,7 +35,7 @@ use denote.Triple.Walked.{says, Stays, gave-ref, stay-none, walkOf, AllGo, goes-
 use denote.Exit.{yes}
 use Rattle.answer.specs.Answer.{Outcome, onAccepted}
 use Rattle.answer.specs.Packed.{packed}
-use Rattle.tally.specs.Total.{totalAfter, answerTo, addedOf}
+use Rattle.tally.specs.Total.{nextTotal, totalAfter, addedOf}
 use Rattle.tally.specs.declared.Tally.{Tally}
 use Rattle.tally.specs.declared.Added.{Added}
 use Rattle.tally.proofs.Tally as T
@@ -61,8 +61,8 @@ abbrev stayed : Stays (tally-add.ended .signature .params) (tally-add.ended .kep
 stayed = (gave-ref (0 ∷ []) tt (plain (λ _. T.the-row)), (stay-none (λ _. u16) yes, tt))
 
 -- the number that stands for an answer
-abbrev numbered : Outcome (Unit {0}) → ℕ
-numbered o = packed (onAccepted (λ taken. []) o)
+abbrev numbered : Outcome ℕ → ℕ
+numbered o = packed (onAccepted (λ total. []) o)
 
 module _ {M : Type 1} (𝓤 : URA M) (H : Heap 𝓤) (A : Atoms 𝓤) (at-mem : Memory → SProp 𝓤) (run : Routine → Fun 𝓤) where
   -- the contracts that the proof cites
@@ -101,7 +101,7 @@ module _ {M : Type 1} (𝓤 : URA M) (H : Heap 𝓤) (A : Atoms 𝓤) (W : Given
 
   -- what `add` ensures of its answer and of the record's last value
   abbrev Ensured : Added → Tally → Type 0
-  Ensured r h′ = (addedOf r ≡ answerTo (h .total) n) × (h′ .total ≡ totalAfter (h .total) n)
+  Ensured r h′ = (addedOf r ≡ nextTotal (h .total) n) × (h′ .total ≡ totalAfter (h .total) n)
 
   exits : (r : Added) (h′ : Tally) (m : ℕ) (v : Val) → Ensured r h′ → m ≡ numbered (addedOf r)
       → ent 𝓤 (⋆ 𝓤 H A ((‵ (flft κ q) ⊛ ‵ ftrue) ∷ ‵ (fres γ (T.the-row .coded .code h′)) ∷ ‵ (u64 .own m (v ∷ [])) ∷ [])) (Post v)
