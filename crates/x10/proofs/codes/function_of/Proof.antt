@@ -1,0 +1,74 @@
+use Rattle.x10.proofs.codes.function_of.Statement.{statement}
+use Rattle.x10.proofs.codes.function_of.Tie as tie
+use Rattle.x10.proofs.codes.function_of.Reads as reads
+use Rattle.x10.proofs.codes.function_of.Lts as lts
+
+-- src/codes.rt:42:1
+returns : tie.Need-returns
+returns c = ?
+
+-- src/codes.rt:42:1
+returns-2 : tie.Need-returns-2
+returns-2 c = ?
+
+-- src/codes.rt:42:1
+returns-3 : tie.Need-returns-3
+returns-3 c = ?
+
+-- src/codes.rt:42:1
+returns-4 : tie.Need-returns-4
+returns-4 c = ?
+
+-- src/codes.rt:42:1
+returns-5 : tie.Need-returns-5
+returns-5 c = ?
+
+-- src/codes.rt:42:1
+returns-6 : tie.Need-returns-6
+returns-6 c = ?
+
+-- src/codes.rt:42:1
+returns-7 : tie.Need-returns-7
+returns-7 c = ?
+
+-- src/codes.rt:42:1
+returns-8 : tie.Need-returns-8
+returns-8 c = ?
+
+-- src/codes.rt:42:1
+returns-9 : tie.Need-returns-9
+returns-9 c = ?
+
+-- src/codes.rt:42:1
+returns-10 : tie.Need-returns-10
+returns-10 c = ?
+
+-- src/codes.rt:42:1
+returns-11 : tie.Need-returns-11
+returns-11 c = ?
+
+-- src/codes.rt:42:1
+returns-12 : tie.Need-returns-12
+returns-12 c = ?
+
+-- src/codes.rt:42:1
+returns-13 : tie.Need-returns-13
+returns-13 c = ?
+
+pub function-of-spec : {M : Type 1} → statement M
+function-of-spec =
+    tie.close
+    (tie.spec
+    returns
+    returns-2
+    returns-3
+    returns-4
+    returns-5
+    returns-6
+    returns-7
+    returns-8
+    returns-9
+    returns-10
+    returns-11
+    returns-12
+    returns-13)
