@@ -15,7 +15,7 @@ codes =
     ∷ 0b0111 ∷ 0b1111 ∷ 0b0011 ∷ 0b1011 ∷ 0b0000 ∷ 0b1000 ∷ 0b0100 ∷ 0b1100 ∷ []
 
 -- the code at a place of the list: house 0 is A
-abbrev pub codeAt : ℕ → ℕ
+unfoldable pub codeAt : ℕ → ℕ
 codeAt i = getD codes i 0
 
 -- the place of a code in a list
@@ -24,7 +24,7 @@ position [] code = 0
 position (x ∷ xs) code = cond (eqb x code) 0 (suc (position xs code))
 
 -- the place of a code in the code list
-abbrev pub indexOf : ℕ → ℕ
+unfoldable pub indexOf : ℕ → ℕ
 indexOf code = position codes code
 
 -- to a writer: the code at a place, and 8 past the list
@@ -69,5 +69,5 @@ functionIn [] code = refused 6
 functionIn (f ∷ fs) code = cond (eqb (functionCode f) code) (accepted f) (functionIn fs code)
 
 -- the function with a code; 6 for 1011 and the extended codes
-abbrev pub functionOf : ℕ → Outcome Function
+unfoldable pub functionOf : ℕ → Outcome Function
 functionOf code = functionIn functions code

@@ -1,7 +1,8 @@
 // X-10 patterns (document 01, "X-10 patterns"): a number, 0 or 1, for each half cycle, in a byte of its own.
 mod codes; // codes.rt: the code list of houses and units, and the table of functions
 mod pairs; // pairs.rt: bits and their complements, read from places and put into them
-// mod parts; // parts.rt: the parts of a pattern, after the first checks
+mod parts; // parts.rt: the parts of a pattern, after the first checks
+use parts::STANDARD;
 
 use answer::Refusal;
 use answer::Written;
@@ -13,8 +14,6 @@ ghost use Rattle.x10.specs.Codes.{functionCode};
 ghost use Rattle.x10.specs.Answers.{outcomeOf};
 ghost use Rattle.x10.specs.Pattern.{read, write, unit, function, extended, writeFunctionCode};
 
-// The places of a standard pattern, and of an Extended 1.
-const STANDARD: usize = 22;
 
 // Document 001's functions that take 22 places, in the order of their codes.
 pub enum Function {

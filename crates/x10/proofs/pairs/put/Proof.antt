@@ -1,65 +1,74 @@
+-- `put` meets its contract. The invariant: the pairs still to put, put from here on, leave what all of them leave.
+-- Assumes nothing.
+use mathlib.Core.Path.{_≡_, sym, ap, _∙_}
+use Prim.Native.Nat.{ℕ, _+_, _*_, _≤_, _<_}
+use native.Mathlib.Omega.{arith}
+use borrow.Author.Needs.{needs}
+use lib.ListN.{length, length-set}
+use lib.Seq.{sets}
+use Rattle.x10.specs.Places.{paired, bits}
+use Rattle.x10.proofs.Laws.Put.{put-pair}
 use Rattle.x10.proofs.pairs.put.Statement.{statement}
 use Rattle.x10.proofs.pairs.put.Tie as tie
-use Rattle.x10.proofs.pairs.put.Reads as reads
-use Rattle.x10.proofs.pairs.put.Lts as lts
 
 abbrev Inv-loop : tie.InvT-loop
-Inv-loop out₀ from n width at₀ left₀ out at left = ?
+Inv-loop out₀ from n width at₀ left₀ out at left =
+    (left ≤ width)
+    × (length out ≡ length out₀)
+    × (at + 2 * left ≤ length out₀)
+    × (sets out at (paired (bits left n)) ≡ sets out₀ from (paired (bits width n)))
 
 abbrev μ-loop : tie.MeasureT-loop
-μ-loop out₀ from n width at₀ left₀ out at left = ?
+μ-loop out₀ from n width at₀ left₀ out at left = left
 
--- src/pairs.rt:62:5
 loop-holds : tie.Need-loop-holds Inv-loop μ-loop
-loop-holds c = ?
+loop-holds c = search needs
 
--- src/pairs.rt:63:9
 sub-left : tie.Need-sub-left Inv-loop μ-loop
-sub-left c = ?
+sub-left c = search needs
 
--- src/pairs.rt:64:25
 cast-bit : tie.Need-cast-bit Inv-loop μ-loop
-cast-bit c = ?
+cast-bit c = search needs
 
--- src/pairs.rt:64:20
 shr-bit : tie.Need-shr-bit Inv-loop μ-loop
-shr-bit c = ?
+shr-bit c = search needs
 
--- src/pairs.rt:65:9
 slice-write-out : tie.Need-slice-write-out Inv-loop μ-loop
-slice-write-out c = ?
+slice-write-out c = search needs
 
--- src/pairs.rt:66:23
 sub-out : tie.Need-sub-out Inv-loop μ-loop
-sub-out c = ?
+sub-out c = search needs
 
--- src/pairs.rt:66:13
 add-out : tie.Need-add-out Inv-loop μ-loop
-add-out c = ?
+add-out c = search needs
 
--- src/pairs.rt:66:9
 slice-write-out-2 : tie.Need-slice-write-out-2 Inv-loop μ-loop
-slice-write-out-2 c = ?
+slice-write-out-2 c = simp length-set (omega arith)
 
--- src/pairs.rt:67:9
 add-at : tie.Need-add-at Inv-loop μ-loop
-add-at c = ?
+add-at c = search needs
 
--- src/pairs.rt:62:5
 loop-less : tie.Need-loop-less Inv-loop μ-loop
-loop-less c = ?
+loop-less c = search needs
 
--- src/pairs.rt:62:5
 loop-again : tie.Need-loop-again Inv-loop μ-loop
-loop-again c = ?
+loop-again c =
+    let l = c .before .loop in
+    let h : 0 < l .left = omega arith in
+    (omega arith,
+    simp length-set (omega arith),
+    omega arith,
+    sym (put-pair (l .out) (l .at) (l .left) (c .before .before .args .n) h) ∙ l .inv .3)
 
--- src/pairs.rt:56:1
 same-length : tie.Need-same-length Inv-loop μ-loop
-same-length c = ?
+same-length c = search needs
 
--- src/pairs.rt:56:1
 returns : tie.Need-returns Inv-loop μ-loop
-returns c = ?
+returns c =
+    let l = c .before .loop in
+    let a = c .before .before .args in
+    let e : l .left ≡ 0 = omega arith in
+    ap (λ (k : ℕ). sets (l .out) (l .at) (paired (bits k (a .n)))) (sym e) ∙ l .inv .3
 
 pub put-spec : {M : Type 1} → statement M
 put-spec =

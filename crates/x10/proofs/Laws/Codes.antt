@@ -1,0 +1,107 @@
+-- The code list is a bijection of the 16 codes: one test over the list and over the places of its codes. Assumes nothing.
+use mathlib.Core.Path.{_≡_, refl, sym, ap, _∙_}
+use mathlib.Core.Bool.{Bool, false}
+use mathlib.Core.List.{List, [], _∷_}
+use Prim.Native.Nat.{ℕ, _<_}
+use lib.Dec.{T, eqb, ltb, eqb→eq, ltb→lt}
+use lib.ListN.{getD}
+use borrow.Author.Tests.{ne-eqb}
+use Rattle.answer.specs.Answer.{Outcome, refused, accepted}
+use Rattle.x10.specs.declared.Function.{Function}
+use Rattle.x10.specs.declared.Function.the-variants.{AllUnitsOff, AllLightsOn, On, Off, Dim, Bright, AllLightsOff, HailRequest, HailAcknowledge, StatusOn, StatusOff, StatusRequest}
+use Rattle.x10.specs.Codes.{codes, codeAt, indexOf, functionCode, functionOf}
+use Rattle.x10.proofs.Laws.Table.{at}
+
+-- the place of each code in the list, by code
+abbrev pub places : List ℕ
+places = 12 ∷ 4 ∷ 2 ∷ 10 ∷ 14 ∷ 6 ∷ 0 ∷ 8 ∷ 13 ∷ 5 ∷ 3 ∷ 11 ∷ 15 ∷ 7 ∷ 1 ∷ 9 ∷ []
+
+-- an entry x at place i: the code's place is i, and the code is below 16
+right-code : ℕ → ℕ → Bool
+right-code i x = eqb (indexOf x) i
+
+small-code : ℕ → ℕ → Bool
+small-code i x = ltb x 16
+
+right-place : ℕ → ℕ → Bool
+right-place code x = eqb x (indexOf code)
+
+right-back : ℕ → ℕ → Bool
+right-back code x = eqb (codeAt (indexOf code)) code
+
+small-place : ℕ → ℕ → Bool
+small-place code x = ltb (indexOf code) 16
+
+module _ (i : ℕ) (h : i < 16) where
+  pub index-of-code : indexOf (codeAt i) ≡ i
+  unfolding right-code codeAt indexOf
+  index-of-code = eqb→eq (indexOf (codeAt i)) i (at right-code codes tt i h)
+
+  pub code-small : codeAt i < 16
+  unfolding small-code codeAt
+  code-small = ltb→lt (codeAt i) 16 (at small-code codes tt i h)
+
+  pub code-at-index : codeAt (indexOf i) ≡ i
+  unfolding right-back codeAt indexOf
+  code-at-index = eqb→eq (codeAt (indexOf i)) i (at right-back places tt i h)
+
+  pub index-small : indexOf i < 16
+  unfolding small-place indexOf
+  index-small = ltb→lt (indexOf i) 16 (at small-place places tt i h)
+
+  pub place-of : getD places i 0 ≡ indexOf i
+  unfolding right-place indexOf
+  place-of = eqb→eq (getD places i 0) (indexOf i) (at right-place places tt i h)
+
+-- each function is found by its code
+pub function-found : (f : Function) → functionOf (functionCode f) ≡ accepted f
+unfolding functionOf
+function-found AllUnitsOff = refl
+function-found AllLightsOn = refl
+function-found On = refl
+function-found Off = refl
+function-found Dim = refl
+function-found Bright = refl
+function-found AllLightsOff = refl
+function-found HailRequest = refl
+function-found HailAcknowledge = refl
+function-found StatusOn = refl
+function-found StatusOff = refl
+function-found StatusRequest = refl
+
+pub found : (f : Function) (code : ℕ) → code ≡ functionCode f → accepted f ≡ functionOf code
+found f code e = sym (ap functionOf e ∙ function-found f)
+
+other : (a code : ℕ) → (code ≡ a → ⊥) → eqb a code ≡ false
+other a code h = ne-eqb a code (λ e. h (sym e))
+
+-- a code that is no function's
+pub no-function : (code : ℕ)
+    → (code ≡ 0 → ⊥)
+    → (code ≡ 1 → ⊥)
+    → (code ≡ 2 → ⊥)
+    → (code ≡ 3 → ⊥)
+    → (code ≡ 4 → ⊥)
+    → (code ≡ 5 → ⊥)
+    → (code ≡ 6 → ⊥)
+    → (code ≡ 8 → ⊥)
+    → (code ≡ 9 → ⊥)
+    → (code ≡ 13 → ⊥)
+    → (code ≡ 14 → ⊥)
+    → (code ≡ 15 → ⊥)
+    → refused 6 ≡ functionOf code
+unfolding functionOf
+no-function code n0 n1 n2 n3 n4 n5 n6 n8 n9 n13 n14 n15 =
+    simp
+    (other 0 code n0,
+    other 1 code n1,
+    other 2 code n2,
+    other 3 code n3,
+    other 4 code n4,
+    other 5 code n5,
+    other 6 code n6,
+    other 8 code n8,
+    other 9 code n9,
+    other 13 code n13,
+    other 14 code n14,
+    other 15 code n15)
