@@ -1,4 +1,6 @@
+pub mod Bits
 pub mod Codes
 pub mod Pairs
+pub mod Pattern
 pub mod Put
 pub mod Table

@@ -56,11 +56,11 @@ read places =
     (readKey places)))
 
 -- start code, house H8 H4 H2 H1, key D8 D4 D2 D1 D16
-abbrev pub standard : ℕ → ℕ → ℕ → List ℕ
+unfoldable pub standard : ℕ → ℕ → ℕ → List ℕ
 standard house key d16 = startCode ++ (paired (bits 4 house) ++ (paired (bits 4 key) ++ paired (bits 1 d16)))
 
 -- Extended 1 goes on with unit, data and command
-abbrev pub extension : ℕ → ℕ → ℕ → List ℕ
+unfoldable pub extension : ℕ → ℕ → ℕ → List ℕ
 extension key data′ command = paired (bits 4 key) ++ (paired (bits 8 data′) ++ paired (bits 8 command))
 
 -- the places of a pattern: 8 for a house or a unit outside its list
