@@ -4,3 +4,4 @@ pub mod Pairs
 pub mod Pattern
 pub mod Put
 pub mod Table
+pub mod Write

@@ -32,11 +32,11 @@ abbrev pub listed : ℕ → Outcome ℕ
 listed i = refuseIf (ltb 15 i) 8 (accepted (codeAt i))
 
 -- to a writer: the code of house 0 to 15
-abbrev pub houseCode : ℕ → Outcome ℕ
+unfoldable pub houseCode : ℕ → Outcome ℕ
 houseCode house = listed house
 
 -- to a writer: the code of unit 1 to 16
-abbrev pub unitCode : ℕ → Outcome ℕ
+unfoldable pub unitCode : ℕ → Outcome ℕ
 unitCode u = refuseIf (eqb u 0) 8 (listed (u - 1))
 
 -- document 001's functions that take 22 places: D8 D4 D2 D1, with D16 1
