@@ -1,15 +1,17 @@
 -- The code list is a bijection of the 16 codes: one test over the list and over the places of its codes. Assumes nothing.
 use mathlib.Core.Path.{_≡_, refl, sym, ap, _∙_}
-use mathlib.Core.Bool.{Bool, false}
+use mathlib.Core.Bool.{Bool, true, false, cond}
 use mathlib.Core.List.{List, [], _∷_}
 use Prim.Native.Nat.{ℕ, _<_}
 use lib.Dec.{T, eqb, ltb, eqb→eq, ltb→lt}
 use lib.ListN.{getD}
-use borrow.Author.Tests.{ne-eqb}
+use native.Mathlib.Omega.{arith}
+use borrow.Author.Tests.{ne-eqb, eqb-true}
 use Rattle.answer.specs.Answer.{Outcome, refused, accepted}
 use Rattle.x10.specs.declared.Function.{Function}
 use Rattle.x10.specs.declared.Function.the-variants.{AllUnitsOff, AllLightsOn, On, Off, Dim, Bright, AllLightsOff, HailRequest, HailAcknowledge, StatusOn, StatusOff, StatusRequest}
-use Rattle.x10.specs.Codes.{codes, codeAt, indexOf, functionCode, functionOf}
+use Rattle.x10.specs.Codes.{codes, codeAt, indexOf, functionCode, functions, functionIn, functionOf, extended1}
+use Rattle.x10.proofs.Laws.Outcome.{never, same}
 use Rattle.x10.proofs.Laws.Table.{at}
 
 -- the place of each code in the list, by code
@@ -105,3 +107,46 @@ no-function code n0 n1 n2 n3 n4 n5 n6 n8 n9 n13 n14 n15 =
     other 13 code n13,
     other 14 code n14,
     other 15 code n15)
+
+-- the codes of functions have four bits, and none is that of Extended 1
+pub code-below : (f : Function) → functionCode f < 16
+code-below AllUnitsOff = omega arith
+code-below AllLightsOn = omega arith
+code-below On = omega arith
+code-below Off = omega arith
+code-below Dim = omega arith
+code-below Bright = omega arith
+code-below AllLightsOff = omega arith
+code-below HailRequest = omega arith
+code-below HailAcknowledge = omega arith
+code-below StatusOn = omega arith
+code-below StatusOff = omega arith
+code-below StatusRequest = omega arith
+
+pub code-plain : (f : Function) → functionCode f ≡ extended1 → ⊥
+code-plain AllUnitsOff = omega arith
+code-plain AllLightsOn = omega arith
+code-plain On = omega arith
+code-plain Off = omega arith
+code-plain Dim = omega arith
+code-plain Bright = omega arith
+code-plain AllLightsOff = omega arith
+code-plain HailRequest = omega arith
+code-plain HailAcknowledge = omega arith
+code-plain StatusOn = omega arith
+code-plain StatusOff = omega arith
+code-plain StatusRequest = omega arith
+
+-- a function that is found by a code has it
+found-in : (fs : List Function) (code : ℕ) (f : Function) → functionIn fs code ≡ accepted f → functionCode f ≡ code
+found-in [] code f e = absurd (never e)
+found-in (g ∷ fs) code f e = go (found-in fs code f) (eqb (functionCode g) code) refl e
+  where
+    go : (functionIn fs code ≡ accepted f → functionCode f ≡ code) → (t : Bool) → eqb (functionCode g) code ≡ t
+        → cond t (accepted g) (functionIn fs code) ≡ accepted f → functionCode f ≡ code
+    go rec true et e = ap functionCode (sym (same e)) ∙ eqb-true (functionCode g) code et
+    go rec false et e = rec e
+
+pub found-code : (code : ℕ) (f : Function) → functionOf code ≡ accepted f → functionCode f ≡ code
+unfolding functionOf
+found-code code f e = found-in functions code f e
