@@ -3,7 +3,6 @@ use answer::pack_5_bytes;
 use answer::pack_refusal;
 use answer::pack_written;
 use x10::Pattern;
-
 ghost use mathlib.Core.Path.{_≡_};
 ghost use mathlib.Core.List.{[], _∷_};
 ghost use lib.ListN.{length};
@@ -19,7 +18,13 @@ fn pack_pattern(p: Pattern) -> u64
     match p {
         Pattern::Refused(r) => pack_refusal(r),
         Pattern::Unit { house, unit } => pack_5_bytes(0, house, unit, 0, 0),
-        Pattern::Standard { house, function } => pack_5_bytes(1, house, x10::code_of(function), 0, 0),
+        Pattern::Standard { house, function } => pack_5_bytes(
+            1,
+            house,
+            x10::code_of(function),
+            0,
+            0,
+        ),
         Pattern::Extended {
             house,
             unit,
@@ -53,7 +58,13 @@ pub extern "C" fn x10_write_function(house: u8, code: u8, out: &mut [u8]) -> u64
 }
 
 #[no_mangle]
-pub extern "C" fn x10_write_extended(house: u8, unit: u8, data: u8, command: u8, out: &mut [u8]) -> u64
+pub extern "C" fn x10_write_extended(
+    house: u8,
+    unit: u8,
+    data: u8,
+    command: u8,
+    out: &mut [u8],
+) -> u64
     ensures { λ n. ⌜ n ≡ packed (onAccepted (λ count. word count ∷ []) (onAccepted length (inRoom (length (now (out .entry))) (write (extended house unit «data» command))))) ⌝ }
     ensures { λ n. ⌜ now (out .exit) ≡ outAfter (inRoom (length (now (out .entry))) (write (extended house unit «data» command))) (now (out .entry)) ⌝ }
 {

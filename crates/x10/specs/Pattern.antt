@@ -1,11 +1,11 @@
 -- Document 01, "X-10 patterns": what a pattern says, its reading and its writing.
-use Prim.Native.Nat.{ℕ, suc, _+_}
+use Prim.Native.Nat.{ℕ, _+_}
 use mathlib.Core.Bool.{not, cond}
 use mathlib.Core.List.{List, _++_}
 use lib.Dec.{eqb, ltb}
 use lib.ListN.{length}
 use lib.Seq.{slice}
-use Rattle.answer.specs.Answer.{Outcome, refused, accepted, refuseIf, andThen}
+use Rattle.answer.specs.Answer.{Outcome, accepted, refuseIf, andThen}
 use Rattle.x10.specs.declared.Function.{Function}
 use Rattle.x10.specs.Codes.{indexOf, houseCode, unitCode, functionCode, functionOf, extended1}
 use Rattle.x10.specs.Places.{arePlaces, startCode, startsWith, paired, bits, spelled}

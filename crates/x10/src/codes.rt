@@ -1,6 +1,5 @@
 // The code list of houses and units, and the table of functions.
 use crate::Function;
-
 ghost use mathlib.Core.Path.{_≡_};
 ghost use Prim.Native.Nat.{_<_};
 ghost use Rattle.x10.specs.Codes.{codeAt, indexOf, functionOf};
@@ -8,8 +7,22 @@ ghost use Rattle.x10.specs.Answers.{lookupOf};
 
 // The codes of houses A to P, and of units 1 to 16.
 const CODES: [u8; 16] = [
-    0b0110, 0b1110, 0b0010, 0b1010, 0b0001, 0b1001, 0b0101, 0b1101, 0b0111, 0b1111, 0b0011, 0b1011, 0b0000, 0b1000,
-    0b0100, 0b1100,
+    0b0110,
+    0b1110,
+    0b0010,
+    0b1010,
+    0b0001,
+    0b1001,
+    0b0101,
+    0b1101,
+    0b0111,
+    0b1111,
+    0b0011,
+    0b1011,
+    0b0000,
+    0b1000,
+    0b0100,
+    0b1100,
 ];
 
 // The place of each code in the list above.

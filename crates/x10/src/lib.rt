@@ -14,7 +14,6 @@ use parts::read_key;
 use parts::starts;
 use parts::write_long;
 use parts::write_standard;
-
 ghost use mathlib.Core.Path.{_≡_};
 ghost use lib.ListN.{length};
 ghost use Rattle.answer.specs.Answer.{writtenOf, onAccepted, inRoom, outAfter};
@@ -41,9 +40,20 @@ pub enum Function {
 // What a pattern says. House 0 to 15 stands for A to P; units are 1 to 16.
 pub enum Pattern {
     Refused(Refusal),
-    Unit { house: u8, unit: u8 },
-    Standard { house: u8, function: Function },
-    Extended { house: u8, unit: u8, data: u8, command: u8 },
+    Unit {
+        house: u8,
+        unit: u8,
+    },
+    Standard {
+        house: u8,
+        function: Function,
+    },
+    Extended {
+        house: u8,
+        unit: u8,
+        data: u8,
+        command: u8,
+    },
 }
 
 // A function's code, D8 D4 D2 D1.

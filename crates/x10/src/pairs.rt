@@ -57,13 +57,13 @@ pub(crate) fn put(out: &mut [u8], from: usize, n: u8, width: usize)
     requires { ⌜ (width ≤ 8) × (from + 2 * width ≤ length (now out)) ⌝ }
     ensures { λ r. ⌜ now (out .exit) ≡ sets (now (out .entry)) from (paired (bits width n)) ⌝ }
 {
-    let mut at = from;
-    let mut left = width;
-    while 0 < left {
-        left -= 1;
-        let bit = (n >> left) % 2;
+    let mut i: usize = 0;
+    while i < width {
+        let at = from + 2 * i;
+        let weight = width - 1 - i;
+        let bit = (n >> weight) % 2;
         out[at] = bit;
         out[at + 1] = 1 - bit;
-        at += 2;
+        i += 1;
     }
 }

@@ -1,6 +1,4 @@
 // The parts of a pattern: the start code, house and key, the rest of an Extended 1.
-use answer::Refusal;
-use answer::Written;
 use crate::Pattern;
 use crate::codes::EXTENDED_1;
 use crate::codes::Lookup;
@@ -10,7 +8,8 @@ use crate::pairs::Spelling;
 use crate::pairs::are_places;
 use crate::pairs::put;
 use crate::pairs::spelled;
-
+use answer::Refusal;
+use answer::Written;
 ghost use mathlib.Core.Path.{_≡_};
 ghost use Prim.Native.Nat.{_+_, _<_, _≤_};
 ghost use mathlib.Core.List.{_++_};
@@ -24,7 +23,21 @@ ghost use Rattle.x10.specs.Pattern.{readKey, readFunction, readRest, end
 
 // The places of a standard pattern, and of an Extended 1.
 pub const STANDARD: usize = 22;
+
 pub const EXTENDED: usize = 62;
+
+// Where each part starts, after the start code.
+const HOUSE: usize = 4;
+
+const KEY: usize = 12;
+
+const D16: usize = 20;
+
+const UNIT: usize = 22;
+
+const DATA: usize = 30;
+
+const COMMAND: usize = 46;
 
 // Whether the places begin with the start code 1110.
 pub(crate) fn starts(places: &[u8]) -> bool
@@ -48,15 +61,15 @@ pub(crate) fn read_key(places: &[u8]) -> Pattern
     requires { ⌜ 22 ≤ length (now places) ⌝ }
     ensures { λ r. ⌜ outcomeOf r ≡ readKey (now (places .entry)) ⌝ }
 {
-    let house_bits = spelled(places, 4, 4);
+    let house_bits = spelled(places, HOUSE, 4);
     let Spelling::Number(house) = house_bits else {
         return Pattern::Refused(Refusal::Checksum);
     };
-    let key_bits = spelled(places, 12, 4);
+    let key_bits = spelled(places, KEY, 4);
     let Spelling::Number(key) = key_bits else {
         return Pattern::Refused(Refusal::Checksum);
     };
-    let d16_bits = spelled(places, 20, 1);
+    let d16_bits = spelled(places, D16, 1);
     let Spelling::Number(d16) = d16_bits else {
         return Pattern::Refused(Refusal::Checksum);
     };
@@ -112,15 +125,15 @@ fn read_rest(places: &[u8], house: u8) -> Pattern
     if !are_places(places, STANDARD, EXTENDED) {
         return Pattern::Refused(Refusal::Field);
     }
-    let key_bits = spelled(places, 22, 4);
+    let key_bits = spelled(places, UNIT, 4);
     let Spelling::Number(key) = key_bits else {
         return Pattern::Refused(Refusal::Checksum);
     };
-    let data_bits = spelled(places, 30, 8);
+    let data_bits = spelled(places, DATA, 8);
     let Spelling::Number(data) = data_bits else {
         return Pattern::Refused(Refusal::Checksum);
     };
-    let command_bits = spelled(places, 46, 8);
+    let command_bits = spelled(places, COMMAND, 8);
     let Spelling::Number(command) = command_bits else {
         return Pattern::Refused(Refusal::Checksum);
     };
@@ -144,9 +157,9 @@ fn put_standard(out: &mut [u8], house: u8, key: u8, d16: u8)
     out[1] = 1;
     out[2] = 1;
     out[3] = 0;
-    put(out, 4, house, 4);
-    put(out, 12, key, 4);
-    put(out, 20, d16, 1);
+    put(out, HOUSE, house, 4);
+    put(out, KEY, key, 4);
+    put(out, D16, d16, 1);
 }
 
 // Writes a standard pattern of codes: 9, then its places.
@@ -170,8 +183,8 @@ pub(crate) fn write_long(house: u8, key: u8, data: u8, command: u8, out: &mut [u
         return Written::Refused(Refusal::Room);
     }
     put_standard(out, house, EXTENDED_1, 1);
-    put(out, 22, key, 4);
-    put(out, 30, data, 8);
-    put(out, 46, command, 8);
+    put(out, UNIT, key, 4);
+    put(out, DATA, data, 8);
+    put(out, COMMAND, command, 8);
     Written::Count(62)
 }

@@ -8,7 +8,7 @@ use native.Mathlib.Numerals.{one-add}
 use native.Mathlib.Omega.{arith}
 use lib.Dec.{eqb, ltb}
 use lib.ListN.{length}
-use lib.Pow.{pow-pos, high, mod-pow-add}
+use lib.Pow.{high, mod-pow-add}
 use borrow.Author.Tests.{lt-ltb, ltb-true, eqb-true, eq-eqb}
 use Rattle.answer.specs.Answer.{Outcome, refused, accepted, refuseIf, onAccepted}
 use Rattle.x10.specs.Places.{arePlaces, paired, unpaired, bits, number, numberFrom, spelled}
@@ -61,7 +61,7 @@ bits-number m (b ∷ bs) v =
     let v′ : arePlaces bs ≡ true = and-right (ltb b 2) (arePlaces bs) v in
     let h : b < 2 = ltb-true b 2 (and-left (ltb b 2) (arePlaces bs) v) in
     let top : numberFrom (m * 2 + b) bs / 2 ^ k ≡ m * 2 + b =
-        ap (λ (x : ℕ). x / 2 ^ k) (number-from (m * 2 + b) bs) ∙ high (m * 2 + b) k (number-below bs v′) in
+    ap (λ (x : ℕ). x / 2 ^ k) (number-from (m * 2 + b) bs) ∙ high (m * 2 + b) k (number-below bs v′) in
     let odd : (m * 2 + b) % 2 ≡ b = omega arith in
     ap₂ (λ (x : ℕ) (xs : List ℕ). x ∷ xs) (ap (λ (x : ℕ). x % 2) top ∙ odd) (bits-number (m * 2 + b) bs v′)
 
@@ -71,7 +71,7 @@ number-bits m zero n = omega arith
 number-bits m (suc w) n =
     let d : ℕ = n / 2 ^ w % 2 in
     let split : n % 2 ^ suc w ≡ d * 2 ^ w + n % 2 ^ w =
-        ap (λ (k : ℕ). n % 2 ^ k) (sym (one-add w)) ∙ mod-pow-add n 1 w in
+    ap (λ (k : ℕ). n % 2 ^ k) (sym (one-add w)) ∙ mod-pow-add n 1 w in
     let e : 0 * 2 + d ≡ d = omega arith in
     number-bits (m * 2 + d) w n
     ∙ shifted m d (2 ^ w) (n % 2 ^ w)
@@ -148,6 +148,7 @@ spelled-back w ps n hl e = go (unpaired ps) refl e
     go (accepted bs) eo e =
         let q : number bs ≡ n = cc in
         let r = unpaired-back ps bs eo in
-        let hw : length bs ≡ w = omega (arith, length-paired bs, ap length (r .0)) in
-        (subst (λ (k : ℕ). n < 2 ^ k) hw (subst (λ (x : ℕ). x < 2 ^ length bs) q (number-below bs (r .1))),
-        r .0 ∙ ap paired (sym (bits-number 0 bs (r .1))) ∙ ap₂ (λ (k x : ℕ). paired (bits k x)) hw q)
+        let hw : length bs ≡ w = omega (arith, length-paired bs, ap length (r .0)) in (
+          subst (λ (k : ℕ). n < 2 ^ k) hw (subst (λ (x : ℕ). x < 2 ^ length bs) q (number-below bs (r .1))),
+          r .0 ∙ ap paired (sym (bits-number 0 bs (r .1))) ∙ ap₂ (λ (k x : ℕ). paired (bits k x)) hw q,
+        )

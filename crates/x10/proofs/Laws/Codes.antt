@@ -3,11 +3,11 @@ use mathlib.Core.Path.{_≡_, refl, sym, ap, _∙_}
 use mathlib.Core.Bool.{Bool, true, false, cond}
 use mathlib.Core.List.{List, [], _∷_}
 use Prim.Native.Nat.{ℕ, _<_}
-use lib.Dec.{T, eqb, ltb, eqb→eq, ltb→lt}
+use lib.Dec.{eqb, ltb, eqb→eq, ltb→lt}
 use lib.ListN.{getD}
 use native.Mathlib.Omega.{arith}
 use borrow.Author.Tests.{ne-eqb, eqb-true}
-use Rattle.answer.specs.Answer.{Outcome, refused, accepted}
+use Rattle.answer.specs.Answer.{refused, accepted}
 use Rattle.x10.specs.declared.Function.{Function}
 use Rattle.x10.specs.declared.Function.the-variants.{AllUnitsOff, AllLightsOn, On, Off, Dim, Bright, AllLightsOff, HailRequest, HailAcknowledge, StatusOn, StatusOff, StatusRequest}
 use Rattle.x10.specs.Codes.{codes, codeAt, indexOf, functionCode, functions, functionIn, functionOf, extended1}
@@ -94,19 +94,20 @@ pub no-function : (code : ℕ)
     → refused 6 ≡ functionOf code
 unfolding functionOf
 no-function code n0 n1 n2 n3 n4 n5 n6 n8 n9 n13 n14 n15 =
-    simp
-    (other 0 code n0,
-    other 1 code n1,
-    other 2 code n2,
-    other 3 code n3,
-    other 4 code n4,
-    other 5 code n5,
-    other 6 code n6,
-    other 8 code n8,
-    other 9 code n9,
-    other 13 code n13,
-    other 14 code n14,
-    other 15 code n15)
+    simp (
+      other 0 code n0,
+      other 1 code n1,
+      other 2 code n2,
+      other 3 code n3,
+      other 4 code n4,
+      other 5 code n5,
+      other 6 code n6,
+      other 8 code n8,
+      other 9 code n9,
+      other 13 code n13,
+      other 14 code n14,
+      other 15 code n15,
+    )
 
 -- the codes of functions have four bits, and none is that of Extended 1
 pub code-below : (f : Function) → functionCode f < 16

@@ -1,12 +1,12 @@
 -- Reading places: one place more, and one pair more. Assumes nothing.
 use mathlib.Core.Path.{_≡_, refl, sym, ap, _∙_}
 use mathlib.Core.Bool.{Bool, true, false, not, _&&_}
-use mathlib.Core.List.{List, [], _∷_}
-use Prim.Native.Nat.{ℕ, suc, _+_, _*_, _^_, _≤_, _<_}
+use mathlib.Core.List.{List, _∷_}
+use Prim.Native.Nat.{ℕ, suc, _+_, _*_, _≤_, _<_}
 use native.Mathlib.Numerals.{add-one, add-two}
 use native.Mathlib.Omega.{arith}
-use lib.Bits.{bitOr, bitAnd, or-lt, or-add-and, and-le-r, and-le-l}
-use lib.Dec.{eqb, ltb}
+use lib.Bits.{bitOr, or-lt, or-add-and, and-le-r, and-le-l}
+use lib.Dec.{ltb}
 use lib.ListN.{length, getD}
 use lib.Seq.{slice, slice-empty, slice-cons}
 use borrow.Author.Tests.{lt-ltb, le-ltb, ltb-true, ltb-false, eq-eqb, ne-eqb}
@@ -50,8 +50,8 @@ module _ (l : List ℕ) (i t : ℕ) where
   two h k =
       one (omega arith) k
       ∙ ap (λ (ps : List ℕ). getD l i 0 ∷ ps)
-        (slice-cons (i + 1) t l 0 h k
-        ∙ ap (λ (j : ℕ). getD l (i + 1) 0 ∷ slice j t l) (ap suc (add-one i) ∙ sym (add-two i)))
+      (slice-cons (i + 1) t l 0 h k
+      ∙ ap (λ (j : ℕ). getD l (i + 1) 0 ∷ slice j t l) (ap suc (add-one i) ∙ sym (add-two i)))
 
 -- no place more
 pub no-place : (t seen : ℕ) (l : List ℕ) → ltb seen 2 && arePlaces (slice t t l) ≡ ltb seen 2

@@ -1,14 +1,14 @@
 -- The readers' checks, each decided by a fact. Assumes nothing.
-use mathlib.Core.Path.{_≡_, refl, sym, ap, _∙_}
-use mathlib.Core.Bool.{Bool, true, false, not, _&&_}
+use mathlib.Core.Path.{_≡_, refl, _∙_}
+use mathlib.Core.Bool.{true, false, _&&_}
 use mathlib.Core.List.{List, [], _∷_}
 use Prim.Native.Nat.{ℕ, _+_, _≤_, _<_}
 use native.Mathlib.Omega.{arith}
-use lib.Dec.{eqb, ltb}
+use lib.Dec.{eqb}
 use lib.ListN.{length, getD}
 use lib.Seq.{slice}
 use borrow.Author.Tests.{lt-ltb, le-ltb, eq-eqb, ne-eqb}
-use Rattle.answer.specs.Answer.{Outcome, refused, accepted, refuseIf, andThen}
+use Rattle.answer.specs.Answer.{refused, accepted}
 use Rattle.x10.specs.declared.Function.{Function}
 use Rattle.x10.specs.Codes.{indexOf, extended1, functionOf}
 use Rattle.x10.specs.Places.{arePlaces, startCode, startsWith, spelled}

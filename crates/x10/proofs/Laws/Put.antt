@@ -1,8 +1,8 @@
 -- What is put into the output: pair after pair, part after part, and the whole as a writer leaves it. Assumes nothing.
 use mathlib.Core.Path.{_≡_, refl, sym, ap, _∙_}
 use mathlib.Core.List.{List, [], _∷_, _++_}
-use Prim.Native.Nat.{ℕ, zero, suc, _+_, _-_, _/_, _%_, _^_, _≤_, _<_}
-use native.Mathlib.Nat.{zero-add, suc-add, add-suc, add-zero, not-suc-le-zero}
+use Prim.Native.Nat.{ℕ, suc, _+_, _-_, _/_, _%_, _^_, _≤_, _<_}
+use native.Mathlib.Nat.{zero-add, suc-add, add-suc, add-zero}
 use native.Mathlib.Numerals.{add-one, add-two}
 use native.Mathlib.Omega.{arith}
 use lib.ListN.{length, drop, set}
@@ -14,13 +14,10 @@ use Rattle.x10.specs.Places.{startCode, paired, bits}
 use Rattle.x10.specs.Pattern.{standard, extension}
 
 -- one pair more
-pub put-pair : (l : List ℕ) (i left n : ℕ) → 0 < left
-    → sets l i (paired (bits left n))
-    ≡ sets (set (set l i (n / 2 ^ (left - 1) % 2)) (i + 1) (1 - n / 2 ^ (left - 1) % 2)) (i + 2) (paired (bits (left - 1) n))
-put-pair l i zero n h = absurd (not-suc-le-zero h)
-put-pair l i (suc k) n h =
-    let e : suc k - 1 ≡ k = omega arith in
-    rw (e, add-one, add-two)
+pub put-pair : (l : List ℕ) (i k n : ℕ)
+    → sets l i (paired (bits (suc k) n))
+    ≡ sets (set (set l i (n / 2 ^ k % 2)) (i + 1) (1 - n / 2 ^ k % 2)) (i + 2) (paired (bits k n))
+put-pair l i k n = rw (add-one, add-two)
 
 -- one part after another
 pub sets-append : (l : List ℕ) (i : ℕ) (xs ys : List ℕ) → sets l i (xs ++ ys) ≡ sets (sets l i xs) (i + length xs) ys
@@ -85,6 +82,7 @@ module _ (l xs : List ℕ) (n : ℕ) (e : length xs ≡ n) where
   pub writes : n ≤ length l → (out : List ℕ) → out ≡ sets l 0 xs
       → (accepted n ≡ onAccepted length (inRoom (length l) (accepted xs))) × (out ≡ outAfter (inRoom (length l) (accepted xs)) l)
   writes h out p =
-      let r : inRoom (length l) (accepted xs) ≡ accepted xs = with-room (length l) xs (omega arith) in
-      (ap accepted (sym e) ∙ ap (onAccepted length) (sym r),
-      p ∙ sets-whole l xs (omega arith) ∙ ap (λ (o : Outcome (List ℕ)). outAfter o l) (sym r))
+      let r : inRoom (length l) (accepted xs) ≡ accepted xs = with-room (length l) xs (omega arith) in (
+        ap accepted (sym e) ∙ ap (onAccepted length) (sym r),
+        p ∙ sets-whole l xs (omega arith) ∙ ap (λ (o : Outcome (List ℕ)). outAfter o l) (sym r),
+      )

@@ -1,6 +1,6 @@
 -- What is read is written as it was sent. Assumes nothing.
-use mathlib.Core.Path.{_≡_, refl, sym, ap, ap₂, subst, _∙_}
-use mathlib.Core.Bool.{Bool, true, false, not, cond, _&&_}
+use mathlib.Core.Path.{_≡_, refl, sym, ap, ap₂, _∙_}
+use mathlib.Core.Bool.{Bool, true, false, not, cond}
 use mathlib.Core.List.{List, [], _∷_, _++_}
 use Prim.Native.Nat.{ℕ, _+_, _-_, _^_, _≤_, _<_}
 use native.Mathlib.Omega.{arith}
@@ -11,7 +11,7 @@ use borrow.Author.Tests.{ltb-false, eqb-true, eqb-false, not-false}
 use Rattle.answer.specs.Answer.{Outcome, refused, accepted, refuseIf, andThen}
 use Rattle.x10.specs.declared.Function.{Function}
 use Rattle.x10.specs.declared.Function.the-variants.{On}
-use Rattle.x10.specs.Codes.{codeAt, indexOf, houseCode, unitCode, functionCode, functionOf, extended1}
+use Rattle.x10.specs.Codes.{codeAt, indexOf, houseCode, unitCode, functionOf, extended1}
 use Rattle.x10.specs.Places.{arePlaces, startCode, startsWith, paired, bits, spelled}
 use Rattle.x10.specs.Pattern.{Message, unit, function, extended, ending, readRest, readFunction, readKey, read, standard, extension, write}
 use Rattle.x10.proofs.Laws.Bits.{and-left, and-right, spelled-back}
@@ -23,7 +23,7 @@ use Rattle.x10.proofs.Laws.Write.{house-listed, unit-listed, unit-writt
 split : (a b t : ℕ) (l : List ℕ) → a ≤ b → b ≤ t → t ≤ length l → slice a t l ≡ slice a b l ++ slice b t l
 split a b t l hab hbt ht =
     let e : take t l ≡ take b l ++ slice b t l =
-        sym (take-append-drop b (take t l)) ∙ ap (λ (x : List ℕ). x ++ slice b t l) (take-take b t l hbt) in
+    sym (take-append-drop b (take t l)) ∙ ap (λ (x : List ℕ). x ++ slice b t l) (take-take b t l hbt) in
     let h : a ≤ length (take b l) = omega (arith, length-take-le b l (omega arith)) in
     ap (drop a) e ∙ drop-append-le a (take b l) (slice b t l) h
 
@@ -79,10 +79,10 @@ module _ (ps : List ℕ) (long : 22 ≤ length ps) (start : take 4 ps ≡ startC
   first-22 =
       split 0 4 22 ps (omega arith) (omega arith) (omega arith)
       ∙ ap₂ _++_ start
-        (split 4 12 22 ps (omega arith) (omega arith) (omega arith)
-        ∙ ap₂ _++_ (part-back 4 12 4 ps h (omega arith) refl eh .1)
-          (split 12 20 22 ps (omega arith) (omega arith) (omega arith)
-          ∙ ap₂ _++_ (part-back 12 20 4 ps k (omega arith) refl ek .1) (part-back 20 22 1 ps d (omega arith) refl ed .1)))
+      (split 4 12 22 ps (omega arith) (omega arith) (omega arith)
+      ∙ ap₂ _++_ (part-back 4 12 4 ps h (omega arith) refl eh .1)
+      (split 12 20 22 ps (omega arith) (omega arith) (omega arith)
+      ∙ ap₂ _++_ (part-back 12 20 4 ps k (omega arith) refl ek .1) (part-back 20 22 1 ps d (omega arith) refl ed .1)))
 
   -- the house and the unit, written again
   house-again : houseCode (indexOf h) ≡ accepted h
@@ -108,8 +108,8 @@ module _ (ps : List ℕ) (long : 22 ≤ length ps) (start : take 4 ps ≡ startC
     next-40 =
         split 22 30 62 ps (omega arith) (omega arith) all
         ∙ ap₂ _++_ (part-back 22 30 4 ps u (omega arith) refl eu .1)
-          (split 30 46 62 ps (omega arith) (omega arith) all
-          ∙ ap₂ _++_ (part-back 30 46 8 ps x (omega arith) refl ex .1) (part-back 46 62 8 ps c all refl ec .1))
+        (split 30 46 62 ps (omega arith) (omega arith) all
+        ∙ ap₂ _++_ (part-back 30 46 8 ps x (omega arith) refl ex .1) (part-back 46 62 8 ps c all refl ec .1))
 
     extended-back : length ps ≤ 62 → k ≡ extended1 → d ≡ 1
         → write (extended (indexOf h) (indexOf u + 1) x c) ≡ accepted ps
@@ -183,7 +183,7 @@ module _ (ps : List ℕ) (m : Message) (long : 22 ≤ length ps) (start : take 4
       go : (a : Outcome ℕ) → spelled (slice 4 12 ps) ≡ a → (b : Outcome ℕ) → spelled (slice 12 20 ps) ≡ b
           → (c : Outcome ℕ) → spelled (slice 20 22 ps) ≡ c
           → (andThen a λ h. andThen b λ k. andThen c λ d.
-            cond (eqb d 0) (ending 22 ps (unit (indexOf h) (indexOf k + 1))) (readFunction ps h k)) ≡ accepted m
+          cond (eqb d 0) (ending 22 ps (unit (indexOf h) (indexOf k + 1))) (readFunction ps h k)) ≡ accepted m
           → write m ≡ accepted ps
       go (refused n) ea b eb c ec e = absurd (never e)
       go (accepted h) ea (refused n) eb c ec e = absurd (never e)

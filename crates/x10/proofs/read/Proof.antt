@@ -9,11 +9,6 @@ use Rattle.x10.proofs.Laws.Pattern.{read-short, read-field, read-start,
 use borrow.Author.Needs.{needs}
 use Rattle.x10.proofs.read.Statement.{statement}
 use Rattle.x10.proofs.read.Tie as tie
-use Rattle.x10.proofs.read.Reads as reads
-use Rattle.x10.proofs.read.Lts as lts
-use Rattle.x10.proofs.pairs.are_places.Reads as are-places-reads
-use Rattle.x10.proofs.parts.read_key.Reads as read-key-reads
-use Rattle.x10.proofs.parts.starts.Reads as starts-reads
 
 returns : tie.Need-returns
 returns c = sym (read-short (now (c .before .before .args .places)) (c .if1 .taken))

@@ -11,10 +11,6 @@ use Rattle.x10.proofs.Laws.Write.{house-past, house-listed, unit-zero, 
 use borrow.Author.Needs.{needs}
 use Rattle.x10.proofs.write_extended.Statement.{statement}
 use Rattle.x10.proofs.write_extended.Tie as tie
-use Rattle.x10.proofs.write_extended.Reads as reads
-use Rattle.x10.proofs.write_extended.Lts as lts
-use Rattle.x10.proofs.codes.code_at.Reads as code-at-reads
-use Rattle.x10.proofs.parts.write_long.Reads as write-long-reads
 
 returns : tie.Need-returns
 returns c =

@@ -9,11 +9,6 @@ use Rattle.x10.proofs.Laws.Write.{house-past, house-listed, function-no
 use borrow.Author.Needs.{needs}
 use Rattle.x10.proofs.write_function.Statement.{statement}
 use Rattle.x10.proofs.write_function.Tie as tie
-use Rattle.x10.proofs.write_function.Reads as reads
-use Rattle.x10.proofs.write_function.Lts as lts
-use Rattle.x10.proofs.code_of.Reads as code-of-reads
-use Rattle.x10.proofs.codes.code_at.Reads as code-at-reads
-use Rattle.x10.proofs.parts.write_standard.Reads as write-standard-reads
 
 returns : tie.Need-returns
 returns c =

@@ -9,10 +9,6 @@ use Rattle.x10.proofs.Laws.Write.{code-unknown, code-known, refuses, ha
 use borrow.Author.Needs.{needs}
 use Rattle.x10.proofs.write_function_code.Statement.{statement}
 use Rattle.x10.proofs.write_function_code.Tie as tie
-use Rattle.x10.proofs.write_function_code.Reads as reads
-use Rattle.x10.proofs.write_function_code.Lts as lts
-use Rattle.x10.proofs.codes.function_of.Reads as function-of-reads
-use Rattle.x10.proofs.write_function.Reads as write-function-reads
 
 function-of-requires : tie.Need-function-of-requires
 function-of-requires c κs = search needs

@@ -1,20 +1,15 @@
 -- `write_unit` meets its contract: each way out is a check decided by its fact. Assumes nothing.
 use mathlib.Core.Path.{sym, ap₂, _∙_}
-use mathlib.Core.List.{_++_}
 use Prim.Native.Nat.{ℕ, _-_}
 use denote.Ref.{now}
 use Rattle.answer.specs.Answer.{accepted}
 use Rattle.x10.specs.declared.Function.the-variants.{On}
-use Rattle.x10.specs.Codes.{codeAt, extended1}
-use Rattle.x10.specs.Pattern.{unit, extended, standard, extension, write}
+use Rattle.x10.specs.Codes.{codeAt}
+use Rattle.x10.specs.Pattern.{unit, standard, write}
 use Rattle.x10.proofs.Laws.Write.{house-past, house-listed, unit-zero, unit-past, unit-listed, unit-no-house, unit-no-unit, unit-written, refuses, hands-on}
 use borrow.Author.Needs.{needs}
 use Rattle.x10.proofs.write_unit.Statement.{statement}
 use Rattle.x10.proofs.write_unit.Tie as tie
-use Rattle.x10.proofs.write_unit.Reads as reads
-use Rattle.x10.proofs.write_unit.Lts as lts
-use Rattle.x10.proofs.codes.code_at.Reads as code-at-reads
-use Rattle.x10.proofs.parts.write_standard.Reads as write-standard-reads
 
 returns : tie.Need-returns
 returns c =

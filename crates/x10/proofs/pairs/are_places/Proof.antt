@@ -13,8 +13,6 @@ use Rattle.x10.specs.Places.{arePlaces}
 use Rattle.x10.proofs.Laws.Pairs.{next-place, no-place}
 use Rattle.x10.proofs.pairs.are_places.Statement.{statement}
 use Rattle.x10.proofs.pairs.are_places.Tie as tie
-use Rattle.x10.proofs.pairs.are_places.Reads as reads
-use Rattle.x10.proofs.pairs.are_places.Lts as lts
 
 abbrev Inv-loop : tie.InvT-loop
 Inv-loop s from to seen₀ at₀ seen at =

@@ -2,7 +2,6 @@
 -- Assumes nothing.
 use mathlib.Core.Path.{_≡_, sym, ap, _∙_}
 use Prim.Native.Nat.{ℕ, _+_, _*_, _^_, _≤_, _<_, _-_}
-use native.Mathlib.Nat.{add-zero, mul-zero}
 use native.Mathlib.Omega.{arith}
 use borrow.Author.Needs.{needs}
 use denote.Ref.{now}
@@ -13,9 +12,6 @@ use Rattle.x10.specs.Places.{spelled}
 use Rattle.x10.proofs.Laws.Pairs.{spelledFrom, next-pair, wrong-pair, no-pair, spelled-start}
 use Rattle.x10.proofs.pairs.spelled.Statement.{statement}
 use Rattle.x10.proofs.pairs.spelled.Tie as tie
-use Rattle.x10.proofs.pairs.spelled.Reads as reads
-use Rattle.x10.proofs.pairs.spelled.Lts as lts
-use Rattle.x10.proofs.pairs.wide.Reads as wide-reads
 
 abbrev Inv-loop : tie.InvT-loop
 Inv-loop s from width n₀ i₀ n i =
@@ -37,10 +33,11 @@ loop-holds : tie.Need-loop-holds Inv-loop μ-loop
 loop-holds c =
     let a = c .before .args in
     let t : ℕ = a .from + 2 * a .width in
-    let e : a .from + 2 * 0 ≡ a .from = omega arith in
-    (omega arith,
-    omega arith,
-    ap (λ (k : ℕ). spelledFrom 0 (slice k t (now (a .s)))) e ∙ spelled-start (slice (a .from) t (now (a .s))))
+    let e : a .from + 2 * 0 ≡ a .from = omega arith in (
+      omega arith,
+      omega arith,
+      ap (λ (k : ℕ). spelledFrom 0 (slice k t (now (a .s)))) e ∙ spelled-start (slice (a .from) t (now (a .s))),
+    )
 
 mul-at : tie.Need-mul-at Inv-loop μ-loop
 mul-at c = search needs
@@ -107,12 +104,13 @@ loop-again c =
     let k : t ≤ length (now (a .s)) = omega arith in
     let e : getD (now (a .s)) i 0 + getD (now (a .s)) (i + 1) 0 ≡ 1 = omega arith in
     let b : ℕ = getD (now (a .s)) i 0 in
-    let next : i + 2 ≡ a .from + 2 * (l .i + 1) = omega arith in
-    (omega arith,
-    grown (l .i) (l .n) b (l .inv .1) (omega arith),
-    ap (λ (j : ℕ). spelledFrom (l .n * 2 + b) (slice j t (now (a .s)))) (sym next)
-    ∙ sym (next-pair (now (a .s)) i t (l .n) h k e)
-    ∙ l .inv .2)
+    let next : i + 2 ≡ a .from + 2 * (l .i + 1) = omega arith in (
+      omega arith,
+      grown (l .i) (l .n) b (l .inv .1) (omega arith),
+      ap (λ (j : ℕ). spelledFrom (l .n * 2 + b) (slice j t (now (a .s)))) (sym next)
+          ∙ sym (next-pair (now (a .s)) i t (l .n) h k e)
+          ∙ l .inv .2,
+    )
 
 returns-2 : tie.Need-returns-2 Inv-loop μ-loop
 returns-2 c =

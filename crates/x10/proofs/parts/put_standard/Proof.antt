@@ -1,19 +1,16 @@
 -- `put_standard` meets its contract: start code, house, key and D16, one part after another. Assumes nothing.
-use mathlib.Core.Path.{_≡_, sym, ap, _∙_}
+use mathlib.Core.Path.{ap, _∙_}
 use mathlib.Core.List.{List}
 use Prim.Native.Nat.{ℕ}
 use native.Mathlib.Omega.{arith}
 use denote.Ref.{now}
-use lib.ListN.{length, length-set}
+use lib.ListN.{length-set}
 use lib.Seq.{sets}
-use Rattle.x10.specs.Places.{startCode, paired, bits}
+use Rattle.x10.specs.Places.{paired, bits}
 use Rattle.x10.proofs.Laws.Put.{put-standard}
 use borrow.Author.Needs.{needs}
 use Rattle.x10.proofs.parts.put_standard.Statement.{statement}
 use Rattle.x10.proofs.parts.put_standard.Tie as tie
-use Rattle.x10.proofs.parts.put_standard.Reads as reads
-use Rattle.x10.proofs.parts.put_standard.Lts as lts
-use Rattle.x10.proofs.pairs.put.Reads as put-reads
 
 slice-write-out : tie.Need-slice-write-out
 slice-write-out c = search needs
@@ -35,18 +32,20 @@ put-requires-2 c κs = omega (arith, simp length-set at (c .before .before .befo
 
 put-requires-3 : tie.Need-put-requires-3
 put-requires-3 c κs =
-    omega
-    (arith,
-    c .before .before .before .put2 .kept .0,
-    simp length-set at (c .before .before .before .before .before .before .before .put .kept .0))
+    omega (
+      arith,
+      c .before .before .before .put2 .kept .0,
+      simp length-set at (c .before .before .before .before .before .before .before .put .kept .0),
+    )
 
 same-length : tie.Need-same-length
 same-length c =
-    omega
-    (arith,
-    c .before .before .put3 .kept .0,
-    c .before .before .before .before .before .before .put2 .kept .0,
-    simp length-set at (c .before .before .before .before .before .before .before .before .before .before .put .kept .0))
+    omega (
+      arith,
+      c .before .before .put3 .kept .0,
+      c .before .before .before .before .before .before .put2 .kept .0,
+      simp length-set at (c .before .before .before .before .before .before .before .before .before .before .put .kept .0),
+    )
 
 returns : tie.Need-returns
 returns c =

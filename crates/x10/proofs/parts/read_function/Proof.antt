@@ -12,11 +12,6 @@ use Rattle.x10.proofs.Laws.Pattern.{function-extended, function-unknown
 use borrow.Author.Needs.{needs}
 use Rattle.x10.proofs.parts.read_function.Statement.{statement}
 use Rattle.x10.proofs.parts.read_function.Tie as tie
-use Rattle.x10.proofs.parts.read_function.Reads as reads
-use Rattle.x10.proofs.parts.read_function.Lts as lts
-use Rattle.x10.proofs.codes.function_of.Reads as function-of-reads
-use Rattle.x10.proofs.codes.index_of.Reads as index-of-reads
-use Rattle.x10.proofs.parts.read_rest.Reads as read-rest-reads
 
 read-rest-requires : tie.Need-read-rest-requires
 read-rest-requires c κs = search needs

@@ -13,11 +13,6 @@ use Rattle.x10.proofs.Laws.Pattern.{house-wrong, key-wrong, d16-wrong, 
 use borrow.Author.Needs.{needs}
 use Rattle.x10.proofs.parts.read_key.Statement.{statement}
 use Rattle.x10.proofs.parts.read_key.Tie as tie
-use Rattle.x10.proofs.parts.read_key.Reads as reads
-use Rattle.x10.proofs.parts.read_key.Lts as lts
-use Rattle.x10.proofs.pairs.spelled.Reads as spelled-reads
-use Rattle.x10.proofs.parts.read_function.Reads as read-function-reads
-use Rattle.x10.proofs.parts.read_unit.Reads as read-unit-reads
 
 spelled-requires : tie.Need-spelled-requires
 spelled-requires c κs = search needs

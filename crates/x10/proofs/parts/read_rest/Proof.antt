@@ -18,11 +18,6 @@ use Rattle.x10.proofs.Laws.Pattern.{rest-short, rest-field, rest-key-wr
 use borrow.Author.Needs.{needs}
 use Rattle.x10.proofs.parts.read_rest.Statement.{statement}
 use Rattle.x10.proofs.parts.read_rest.Tie as tie
-use Rattle.x10.proofs.parts.read_rest.Reads as reads
-use Rattle.x10.proofs.parts.read_rest.Lts as lts
-use Rattle.x10.proofs.codes.index_of.Reads as index-of-reads
-use Rattle.x10.proofs.pairs.are_places.Reads as are-places-reads
-use Rattle.x10.proofs.pairs.spelled.Reads as spelled-reads
 
 returns : tie.Need-returns
 returns c =

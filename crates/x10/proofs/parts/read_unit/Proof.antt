@@ -12,9 +12,6 @@ use Rattle.x10.proofs.Laws.Pattern.{ends, goes-on}
 use borrow.Author.Needs.{needs}
 use Rattle.x10.proofs.parts.read_unit.Statement.{statement}
 use Rattle.x10.proofs.parts.read_unit.Tie as tie
-use Rattle.x10.proofs.parts.read_unit.Reads as reads
-use Rattle.x10.proofs.parts.read_unit.Lts as lts
-use Rattle.x10.proofs.codes.index_of.Reads as index-of-reads
 
 returns : tie.Need-returns
 returns c = sym (goes-on (now (c .before .before .args .places)) _ 22 (c .if1 .taken))

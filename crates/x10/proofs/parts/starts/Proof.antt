@@ -7,8 +7,6 @@ use Rattle.x10.proofs.Laws.Pattern.{start-test, start-last}
 use borrow.Author.Needs.{needs}
 use Rattle.x10.proofs.parts.starts.Statement.{statement}
 use Rattle.x10.proofs.parts.starts.Tie as tie
-use Rattle.x10.proofs.parts.starts.Reads as reads
-use Rattle.x10.proofs.parts.starts.Lts as lts
 
 shared-slice-read-if1 : tie.Need-shared-slice-read-if1
 shared-slice-read-if1 c = search needs

@@ -12,10 +12,6 @@ use Rattle.x10.proofs.Laws.Put.{put-extended, length-extended, leaves, 
 use borrow.Author.Needs.{needs}
 use Rattle.x10.proofs.parts.write_long.Statement.{statement}
 use Rattle.x10.proofs.parts.write_long.Tie as tie
-use Rattle.x10.proofs.parts.write_long.Reads as reads
-use Rattle.x10.proofs.parts.write_long.Lts as lts
-use Rattle.x10.proofs.pairs.put.Reads as put-reads
-use Rattle.x10.proofs.parts.put_standard.Reads as put-standard-reads
 
 returns : tie.Need-returns
 returns c =

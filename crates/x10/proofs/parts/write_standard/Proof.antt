@@ -6,9 +6,6 @@ use Rattle.x10.proofs.Laws.Put.{length-standard, leaves, writes}
 use borrow.Author.Needs.{needs}
 use Rattle.x10.proofs.parts.write_standard.Statement.{statement}
 use Rattle.x10.proofs.parts.write_standard.Tie as tie
-use Rattle.x10.proofs.parts.write_standard.Reads as reads
-use Rattle.x10.proofs.parts.write_standard.Lts as lts
-use Rattle.x10.proofs.parts.put_standard.Reads as put-standard-reads
 
 returns : tie.Need-returns
 returns c =
