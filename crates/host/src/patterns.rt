@@ -18,7 +18,7 @@ fn pack_pattern(p: Pattern) -> u64
     match p {
         Pattern::Refused(r) => pack_refusal(r),
         Pattern::Unit { house, unit } => pack_5_bytes(0, house, unit, 0, 0),
-        Pattern::Standard { house, function } => pack_5_bytes(
+        Pattern::Function { house, function } => pack_5_bytes(
             1,
             house,
             x10::code_of(function),

@@ -5,7 +5,7 @@ use Rattle.answer.specs.Answer.{Outcome, refused, accepted, numberOf}
 use Rattle.answer.specs.Packed.{Field, byte}
 use Rattle.x10.specs.declared.Function.{Function}
 use Rattle.x10.specs.declared.Pattern.{Pattern}
-use Rattle.x10.specs.declared.Pattern.the-variants.{Refused, Unit as Unit′, Standard, Extended}
+use Rattle.x10.specs.declared.Pattern.the-variants.{Refused, Unit as Unit′, Function as Function′, Extended}
 use Rattle.x10.specs.declared.codes.Lookup.{Lookup}
 use Rattle.x10.specs.declared.codes.Lookup.the-variants.{Known, Unknown}
 use Rattle.x10.specs.declared.pairs.Spelling.{Spelling}
@@ -17,7 +17,7 @@ use Rattle.x10.specs.Pattern.{Message, unit, function, extended}
 abbrev pub outcomeOf : Pattern → Outcome Message
 outcomeOf (Refused r) = refused (numberOf r)
 outcomeOf (Unit′ house u) = accepted (unit house u)
-outcomeOf (Standard house f) = accepted (function house f)
+outcomeOf (Function′ house f) = accepted (function house f)
 outcomeOf (Extended house u data′ command) = accepted (extended house u data′ command)
 
 -- what a look at the table of functions says: 6 for an unknown code

@@ -44,7 +44,7 @@ pub enum Pattern {
         house: u8,
         unit: u8,
     },
-    Standard {
+    Function {
         house: u8,
         function: Function,
     },

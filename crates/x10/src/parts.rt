@@ -84,7 +84,7 @@ fn read_unit(places: &[u8], house: u8, key: u8) -> Pattern
     requires { ⌜ (house < 16) × (key < 16) ⌝ }
     ensures { λ r. ⌜ outcomeOf r ≡ ending 22 (now (places .entry)) (unit (indexOf house) (indexOf key + 1)) ⌝ }
 {
-    if STANDARD < places.len() {
+    if places.len() > STANDARD {
         return Pattern::Refused(Refusal::Long);
     }
     Pattern::Unit {
@@ -108,7 +108,7 @@ fn read_function(places: &[u8], house: u8, key: u8) -> Pattern
     if STANDARD < places.len() {
         return Pattern::Refused(Refusal::Long);
     }
-    Pattern::Standard {
+    Pattern::Function {
         house: index_of(house),
         function,
     }

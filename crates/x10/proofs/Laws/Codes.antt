@@ -1,9 +1,9 @@
 -- The code list is a bijection of the 16 codes: one test over the list and over the places of its codes. Assumes nothing.
 use mathlib.Core.Path.{_≡_, refl, sym, ap, _∙_}
-use mathlib.Core.Bool.{Bool, true, false, cond}
+use mathlib.Core.Bool.{Bool, true, false, cond, _&&_}
 use mathlib.Core.List.{List, [], _∷_}
 use Prim.Native.Nat.{ℕ, _<_}
-use lib.Dec.{eqb, ltb, eqb→eq, ltb→lt}
+use lib.Dec.{T, eqb, ltb, eqb→eq, ltb→lt}
 use lib.ListN.{getD}
 use native.Mathlib.Omega.{arith}
 use borrow.Author.Tests.{ne-eqb, eqb-true}
@@ -12,48 +12,51 @@ use Rattle.x10.specs.declared.Function.{Function}
 use Rattle.x10.specs.declared.Function.the-variants.{AllUnitsOff, AllLightsOn, On, Off, Dim, Bright, AllLightsOff, HailRequest, HailAcknowledge, StatusOn, StatusOff, StatusRequest}
 use Rattle.x10.specs.Codes.{codes, codeAt, indexOf, functionCode, functions, functionIn, functionOf, extended1}
 use Rattle.x10.proofs.Laws.Outcome.{never, same}
-use Rattle.x10.proofs.Laws.Table.{at}
+use Rattle.x10.proofs.Laws.Table.{both-left, both-right, at}
 
--- the place of each code in the list, by code
+-- the rule of the list, at place i with the code x: the code is one of 16 and its place is i; and the code i has a place, where it stands
+rule : ℕ → ℕ → Bool
+rule i x = ltb x 16 && (eqb (indexOf x) i && (ltb (indexOf i) 16 && eqb (codeAt (indexOf i)) i))
+
+-- the place of each code, by code
 abbrev pub places : List ℕ
 places = 12 ∷ 4 ∷ 2 ∷ 10 ∷ 14 ∷ 6 ∷ 0 ∷ 8 ∷ 13 ∷ 5 ∷ 3 ∷ 11 ∷ 15 ∷ 7 ∷ 1 ∷ 9 ∷ []
 
--- an entry x at place i: the code's place is i, and the code is below 16
-right-code : ℕ → ℕ → Bool
-right-code i x = eqb (indexOf x) i
-
-small-code : ℕ → ℕ → Bool
-small-code i x = ltb x 16
-
-right-place : ℕ → ℕ → Bool
-right-place code x = eqb x (indexOf code)
-
-right-back : ℕ → ℕ → Bool
-right-back code x = eqb (codeAt (indexOf code)) code
-
-small-place : ℕ → ℕ → Bool
-small-place code x = ltb (indexOf code) 16
+right : ℕ → ℕ → Bool
+right code x = eqb x (indexOf code)
 
 module _ (i : ℕ) (h : i < 16) where
-  pub index-of-code : indexOf (codeAt i) ≡ i
-  unfolding right-code codeAt indexOf
-  index-of-code = eqb→eq (indexOf (codeAt i)) i (at right-code codes tt i h)
+  holds : T (rule i (codeAt i))
+  unfolding rule codeAt indexOf
+  holds = at rule codes tt i h
+
+  there : T (eqb (indexOf (codeAt i)) i && (ltb (indexOf i) 16 && eqb (codeAt (indexOf i)) i))
+  unfolding rule
+  there = both-right (ltb (codeAt i) 16) (eqb (indexOf (codeAt i)) i && (ltb (indexOf i) 16 && eqb (codeAt (indexOf i)) i)) holds
+
+  back : T (ltb (indexOf i) 16 && eqb (codeAt (indexOf i)) i)
+  back = both-right (eqb (indexOf (codeAt i)) i) (ltb (indexOf i) 16 && eqb (codeAt (indexOf i)) i) there
 
   pub code-small : codeAt i < 16
-  unfolding small-code codeAt
-  code-small = ltb→lt (codeAt i) 16 (at small-code codes tt i h)
+  unfolding rule
+  code-small =
+      ltb→lt (codeAt i) 16
+      (both-left (ltb (codeAt i) 16) (eqb (indexOf (codeAt i)) i && (ltb (indexOf i) 16 && eqb (codeAt (indexOf i)) i)) holds)
 
-  pub code-at-index : codeAt (indexOf i) ≡ i
-  unfolding right-back codeAt indexOf
-  code-at-index = eqb→eq (codeAt (indexOf i)) i (at right-back places tt i h)
+  pub index-of-code : indexOf (codeAt i) ≡ i
+  index-of-code =
+      eqb→eq (indexOf (codeAt i)) i (both-left (eqb (indexOf (codeAt i)) i) (ltb (indexOf i) 16 && eqb (codeAt (indexOf i)) i) there)
 
   pub index-small : indexOf i < 16
-  unfolding small-place indexOf
-  index-small = ltb→lt (indexOf i) 16 (at small-place places tt i h)
+  index-small = ltb→lt (indexOf i) 16 (both-left (ltb (indexOf i) 16) (eqb (codeAt (indexOf i)) i) back)
 
+  pub code-at-index : codeAt (indexOf i) ≡ i
+  code-at-index = eqb→eq (codeAt (indexOf i)) i (both-right (ltb (indexOf i) 16) (eqb (codeAt (indexOf i)) i) back)
+
+  -- the table of places says where each code stands
   pub place-of : getD places i 0 ≡ indexOf i
-  unfolding right-place indexOf
-  place-of = eqb→eq (getD places i 0) (indexOf i) (at right-place places tt i h)
+  unfolding right indexOf
+  place-of = eqb→eq (getD places i 0) (indexOf i) (at right places tt i h)
 
 -- each function is found by its code
 pub function-found : (f : Function) → functionOf (functionCode f) ≡ accepted f
