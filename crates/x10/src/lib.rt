@@ -21,6 +21,11 @@ ghost use Rattle.x10.specs.Codes.{functionCode};
 ghost use Rattle.x10.specs.Answers.{outcomeOf};
 ghost use Rattle.x10.specs.Pattern.{read, write, unit as Unit′, function, extended, writeFunctionCode};
 
+// House P, and unit 16.
+const LAST_HOUSE: u8 = 15;
+
+const LAST_UNIT: u8 = 16;
+
 // Document 001's functions that take 22 places, in the order of their codes.
 pub enum Function {
     AllUnitsOff,
@@ -97,13 +102,13 @@ pub fn write_unit(house: u8, unit: u8, out: &mut [u8]) -> Written
     ensures { λ r. ⌜ writtenOf r ≡ onAccepted length (inRoom (length (now (out .entry))) (write (Unit′ house unit))) ⌝ }
     ensures { λ r. ⌜ now (out .exit) ≡ outAfter (inRoom (length (now (out .entry))) (write (Unit′ house unit))) (now (out .entry)) ⌝ }
 {
-    if 15 < house {
+    if LAST_HOUSE < house {
         return Written::Refused(Refusal::Field);
     }
     if unit == 0 {
         return Written::Refused(Refusal::Field);
     }
-    if 16 < unit {
+    if LAST_UNIT < unit {
         return Written::Refused(Refusal::Field);
     }
     write_standard(code_at(house), code_at(unit - 1), 0, out)
@@ -114,7 +119,7 @@ pub fn write_function(house: u8, f: Function, out: &mut [u8]) -> Written
     ensures { λ r. ⌜ writtenOf r ≡ onAccepted length (inRoom (length (now (out .entry))) (write (function house f))) ⌝ }
     ensures { λ r. ⌜ now (out .exit) ≡ outAfter (inRoom (length (now (out .entry))) (write (function house f))) (now (out .entry)) ⌝ }
 {
-    if 15 < house {
+    if LAST_HOUSE < house {
         return Written::Refused(Refusal::Field);
     }
     write_standard(code_at(house), code_of(f), 1, out)
@@ -137,13 +142,13 @@ pub fn write_extended(house: u8, unit: u8, data: u8, command: u8, out: &mut [u8]
     ensures { λ r. ⌜ writtenOf r ≡ onAccepted length (inRoom (length (now (out .entry))) (write (extended house unit «data» command))) ⌝ }
     ensures { λ r. ⌜ now (out .exit) ≡ outAfter (inRoom (length (now (out .entry))) (write (extended house unit «data» command))) (now (out .entry)) ⌝ }
 {
-    if 15 < house {
+    if LAST_HOUSE < house {
         return Written::Refused(Refusal::Field);
     }
     if unit == 0 {
         return Written::Refused(Refusal::Field);
     }
-    if 16 < unit {
+    if LAST_UNIT < unit {
         return Written::Refused(Refusal::Field);
     }
     write_long(code_at(house), code_at(unit - 1), data, command, out)
