@@ -62,7 +62,22 @@ uint64_t cost_millionths(uint16_t word);
    Accepted: nothing. */
 uint64_t tally_add(struct tally *t, uint16_t word);
 
-/* X-10 patterns */
+/* X-10 patterns: one byte of value 0 or 1 for each half cycle. House 0 to 15 stands for A to P, units are 1 to 16. */
+
+/* Reads a pattern of 22 places, or an Extended 1 of 62. Accepted: kind (8: 0 unit, 1 function, 2 Extended 1), house (8),
+   unit or function code D8 D4 D2 D1 (8), data (8), command (8); data and command are 0 but for Extended 1.
+   Refused 1, 8, 2, 5 or 6 on the first 22 places, 1, 8 or 5 on the rest of an Extended 1, then 4. */
+uint64_t x10_read(const uint8_t *places, size_t len);
+
+/* Writes the 22 places of a house and a unit. Accepted: places written (16). Refused 8, then 9. */
+uint64_t x10_write_unit(uint8_t house, uint8_t unit, uint8_t *out, size_t room);
+
+/* Writes the 22 places of a house and a function, by its code D8 D4 D2 D1. Accepted: places written (16).
+   Refused 6 (1011, every extended code, and above 15), 8, then 9. */
+uint64_t x10_write_function(uint8_t house, uint8_t code, uint8_t *out, size_t room);
+
+/* Writes the 62 places of an Extended 1. Accepted: places written (16). Refused 8, then 9. */
+uint64_t x10_write_extended(uint8_t house, uint8_t unit, uint8_t data, uint8_t command, uint8_t *out, size_t room);
 
 /* The capture listing */
 
