@@ -1,0 +1,4 @@
+pub mod Frame
+pub mod Part
+pub mod Run
+pub mod Sum

@@ -1,0 +1,35 @@
+use Prim.Native.Nat.{_≤_}
+use native.Mathlib.Omega.{arith}
+use Rattle.omnistat.proofs.Laws.Frame.{at-host}
+use borrow.Author.Needs.{needs}
+use Rattle.omnistat.proofs.frame.is_directed.Statement.{statement}
+use Rattle.omnistat.proofs.frame.is_directed.Tie as tie
+use Rattle.omnistat.proofs.frame.is_directed.Reads as reads
+use Rattle.omnistat.proofs.frame.is_directed.Lts as lts
+use Rattle.omnistat.proofs.frame.is_to_thermostat.Reads as is-to-thermostat-reads
+
+-- src/frame.rt:38:28
+enum-told : tie.Need-enum-told
+enum-told c = search needs
+
+-- src/frame.rt:38:28
+is-to-thermostat-requires : tie.Need-is-to-thermostat-requires
+is-to-thermostat-requires c κs = search needs
+
+-- src/frame.rt:39:22
+enum-told-2 : tie.Need-enum-told-2
+enum-told-2 c = search needs
+
+-- src/frame.rt:34:1
+returns : tie.Need-returns
+returns c = cc
+
+-- src/frame.rt:34:1
+returns-2 : tie.Need-returns-2
+returns-2 c =
+    let h : c .before .before .args .first ≤ 255 = omega arith in
+    cc (at-host (c .before .before .args .first) h)
+
+pub is-directed-spec : {M : Type 1} → statement M
+is-directed-spec =
+    tie.close (tie.spec enum-told is-to-thermostat-requires enum-told-2 returns returns-2)

@@ -1,0 +1,42 @@
+// The three groups of registers, the types of their messages and the lengths of their replies.
+ghost use mathlib.Core.Path.{_≡_};
+ghost use Rattle.omnistat.specs.Group.{pollType, replyType, replyLength};
+
+pub enum Group {
+    First,
+    Second,
+    Third,
+}
+
+// The type of the poll of a group.
+pub fn poll_type(g: Group) -> u8
+    ensures { λ r. ⌜ r ≡ pollType g ⌝ }
+{
+    match g {
+        Group::First => 2,
+        Group::Second => 3,
+        Group::Third => 4,
+    }
+}
+
+// The type of the reply with a group.
+pub fn reply_type(g: Group) -> u8
+    ensures { λ r. ⌜ r ≡ replyType g ⌝ }
+{
+    match g {
+        Group::First => 3,
+        Group::Second => 4,
+        Group::Third => 5,
+    }
+}
+
+// How many values the reply with a group has.
+pub fn reply_length(g: Group) -> usize
+    ensures { λ r. ⌜ r ≡ replyLength g ⌝ }
+{
+    match g {
+        Group::First => 6,
+        Group::Second => 6,
+        Group::Third => 10,
+    }
+}
