@@ -22,10 +22,18 @@ abbrev pub framedIn : List ℕ → Framed → Outcome Frame
 framedIn bytes (FrameRefused r) = refused (numberOf r)
 framedIn bytes (Whole first kind count) = accepted (record { first = first; kind = kind; payload = take count (drop 2 bytes) })
 
--- a run's values are the data bytes after the start register
-abbrev pub runIn : {M : Type 0} → (ℕ → ℕ → M) → Run → Outcome M
-runIn make (RunRefused r) = refused (numberOf r)
-runIn make (Registers start count) = accepted (make start count)
+-- a start register and the count of its values
+pub record Span : Type 0 where
+  pub start : ℕ
+  pub count : ℕ
+
+abbrev pub span : ℕ → List ℕ → Span
+span start values = record { start = start; count = length values }
+
+-- what a run of registers is read as
+abbrev pub runOf : Run → Outcome Span
+runOf (RunRefused r) = refused (numberOf r)
+runOf (Registers start count) = accepted (record { start = start; count = count })
 
 -- the values of a set by their count
 abbrev pub countedRequest : Request (List ℕ) → Request ℕ
@@ -42,6 +50,13 @@ countedReply (group g values) = group g (length values)
 
 abbrev pub onMessage : {M N : Type 0} → (M → N) → Addressed M → Addressed N
 onMessage f a = addressed (a .address) (f (a .message))
+
+-- a message with its address, its values by their count
+abbrev pub heardRequest : ℕ → Request (List ℕ) → Addressed (Request ℕ)
+heardRequest first m = addressed first (countedRequest m)
+
+abbrev pub heardReply : ℕ → Reply (List ℕ) → Addressed (Reply ℕ)
+heardReply number m = addressed number (countedReply m)
 
 -- what the reader at the thermostat answers
 abbrev pub requestOf : RequestAnswer → Outcome (Addressed (Request ℕ))

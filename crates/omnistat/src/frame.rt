@@ -21,7 +21,7 @@ pub enum Framed {
 }
 
 // Whether a message to the thermostat may start with this byte: broadcast, one thermostat's number, or universal.
-pub fn is_to_thermostat(first: u8) -> bool
+pub(crate) fn is_to_thermostat(first: u8) -> bool
     ensures { λ r. ⌜ r ≡ directed End.Thermostat first ⌝ }
 {
     if first < 0x80 {
@@ -31,7 +31,7 @@ pub fn is_to_thermostat(first: u8) -> bool
 }
 
 // Whether a message to this end may start with this byte. At the host FA is a reply from 7A.
-pub fn is_directed(end: End, first: u8) -> bool
+pub(crate) fn is_directed(end: End, first: u8) -> bool
     ensures { λ r. ⌜ r ≡ directed end first ⌝ }
 {
     match end {
@@ -41,14 +41,14 @@ pub fn is_directed(end: End, first: u8) -> bool
 }
 
 // The counted length of a whole message with this second byte.
-pub fn counted_length(second: u8) -> usize
+pub(crate) fn counted_length(second: u8) -> usize
     ensures { λ r. ⌜ r ≡ countedLength second ⌝ }
 {
     (second / 16) as usize + 3
 }
 
 // The sum of bytes, modulo 256.
-pub fn sum(bytes: &[u8]) -> u8
+pub(crate) fn sum(bytes: &[u8]) -> u8
     ensures { λ r. ⌜ r ≡ sumOf (now (bytes .entry)) ⌝ }
 {
     let mut total: u32 = 0;
@@ -69,7 +69,7 @@ fn is_summed(bytes: &[u8], last: usize) -> bool
 }
 
 // Takes the frame of a message apart.
-pub fn read(end: End, bytes: &[u8]) -> Framed
+pub(crate) fn read(end: End, bytes: &[u8]) -> Framed
     ensures { λ r. ⌜ framedIn (now (bytes .entry)) r ≡ frame end (now (bytes .entry)) ⌝ }
 {
     if bytes.len() == 0 {
@@ -101,7 +101,7 @@ pub fn read(end: End, bytes: &[u8]) -> Framed
 }
 
 // The count bytes from a place on, or as many of them as there are.
-pub fn part(bytes: &[u8], from: usize, count: usize) -> &[u8]
+pub(crate) fn part(bytes: &[u8], from: usize, count: usize) -> &[u8]
     ensures { λ r. ⌜ now r ≡ take count (drop from (now (bytes .entry))) ⌝ }
 {
     if bytes.len() < from {

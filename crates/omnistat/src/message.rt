@@ -1,12 +1,8 @@
 // What the messages of both ends share: the rule for runs of registers, and a start register with its values.
 ghost use mathlib.Core.Path.{_≡_};
-ghost use Rattle.answer.specs.Answer.{onAccepted};
-ghost use lib.ListN.{length};
-ghost use Prim.Native.Nat.{ℕ};
-ghost use mathlib.Core.List.{List};
 ghost use Rattle.omnistat.specs.Register.{runAllowed};
-ghost use Rattle.omnistat.specs.Message.{asRun, setFrom, dataFrom};
-ghost use Rattle.omnistat.specs.Answer.{runIn, countedRequest, countedReply};
+ghost use Rattle.omnistat.specs.Message.{asRun};
+ghost use Rattle.omnistat.specs.Answer.{runOf, span};
 use answer::Refusal;
 
 // A start register and the count of the values that follow it.
@@ -16,7 +12,7 @@ pub enum Run {
 }
 
 // Whether a run of registers ends at or below 255 and meets no text register, 172 to 181.
-pub fn is_run(start: u8, count: u8) -> bool
+pub(crate) fn is_run(start: u8, count: u8) -> bool
     ensures { λ r. ⌜ r ≡ runAllowed start count ⌝ }
 {
     let past = (start as u16) + (count as u16);
@@ -27,4 +23,22 @@ pub fn is_run(start: u8, count: u8) -> bool
         return true;
     }
     181 < start
+}
+
+// The data bytes of a set or data message: a start register and 1 to 14 values.
+pub(crate) fn read_run(payload: &[u8]) -> Run
+    ensures { λ r. ⌜ runOf r ≡ asRun span (now (payload .entry)) ⌝ }
+{
+    if payload.len() < 2 {
+        return Run::Refused(Refusal::TypeLength);
+    }
+    if 15 < payload.len() {
+        return Run::Refused(Refusal::TypeLength);
+    }
+    let start = payload[0];
+    let count = (payload.len() - 1) as u8;
+    if !is_run(start, count) {
+        return Run::Refused(Refusal::Field);
+    }
+    Run::Registers { start, count }
 }

@@ -1,13 +1,112 @@
 // What a thermostat replies: acknowledge, negative, data, and the three groups. Read at the host, written to the host.
+ghost use mathlib.Core.Path.{_≡_};
+ghost use lib.ListN.{length, take, drop};
+ghost use Rattle.answer.specs.Answer.{onAccepted};
+ghost use Rattle.omnistat.specs.Message.{asRun, asBare, asGroup, asReply, acknowledge, negative, dataFrom};
+ghost use Rattle.omnistat.specs.Omnistat.{read};
+ghost use Rattle.omnistat.specs.Answer.{replyOf, heardReply, onMessage, countedReply};
 use answer::Refusal;
+use crate::frame::End;
+use crate::frame::Framed;
 use crate::group::Group;
+use crate::message::Run;
 
-// What a message to the host is, with the number of the thermostat that sent it. The values are a part of the message, which `values`
-// hands back.
+// What a message to the host is, with the number of the thermostat that sent it. The values are a part of the message, which
+// `values` and `group_values` hand back.
 pub enum Reply {
     Refused(Refusal),
     Acknowledge { number: u8 },
     Negative { number: u8 },
     Data { number: u8, start: u8, count: u8 },
     Group { number: u8, group: Group, count: u8 },
+}
+
+// The data bytes of an acknowledge: none.
+pub(crate) fn as_acknowledge(number: u8, payload: &[u8]) -> Reply
+    ensures { λ r. ⌜ replyOf r ≡ onAccepted (heardReply number) (asBare acknowledge (now (payload .entry))) ⌝ }
+{
+    if payload.len() != 0 {
+        return Reply::Refused(Refusal::TypeLength);
+    }
+    Reply::Acknowledge { number }
+}
+
+// The data bytes of a negative: none.
+pub(crate) fn as_negative(number: u8, payload: &[u8]) -> Reply
+    ensures { λ r. ⌜ replyOf r ≡ onAccepted (heardReply number) (asBare negative (now (payload .entry))) ⌝ }
+{
+    if payload.len() != 0 {
+        return Reply::Refused(Refusal::TypeLength);
+    }
+    Reply::Negative { number }
+}
+
+// The data bytes of a data message: start and values.
+pub(crate) fn as_data(number: u8, payload: &[u8]) -> Reply
+    ensures { λ r. ⌜ replyOf r ≡ onAccepted (heardReply number) (asRun dataFrom (now (payload .entry))) ⌝ }
+{
+    match crate::message::read_run(payload) {
+        Run::Refused(r) => Reply::Refused(r),
+        Run::Registers { start, count } => Reply::Data { number, start, count },
+    }
+}
+
+// The data bytes of a group: as many values as it has.
+pub(crate) fn as_group(number: u8, group: Group, payload: &[u8]) -> Reply
+    ensures { λ r. ⌜ replyOf r ≡ onAccepted (heardReply number) (asGroup group (now (payload .entry))) ⌝ }
+{
+    let count = crate::group::reply_length(group);
+    if payload.len() != count as usize {
+        return Reply::Refused(Refusal::TypeLength);
+    }
+    Reply::Group { number, group, count }
+}
+
+// What a type and its data bytes say to the host.
+pub(crate) fn as_reply(number: u8, kind: u8, payload: &[u8]) -> Reply
+    ensures { λ r. ⌜ replyOf r ≡ onAccepted (heardReply number) (asReply kind (now (payload .entry))) ⌝ }
+{
+    if kind == 0 {
+        return as_acknowledge(number, payload);
+    }
+    if kind == 1 {
+        return as_negative(number, payload);
+    }
+    if kind == 2 {
+        return as_data(number, payload);
+    }
+    if kind == crate::group::reply_type(Group::First) {
+        return as_group(number, Group::First, payload);
+    }
+    if kind == crate::group::reply_type(Group::Second) {
+        return as_group(number, Group::Second, payload);
+    }
+    if kind == crate::group::reply_type(Group::Third) {
+        return as_group(number, Group::Third, payload);
+    }
+    Reply::Refused(Refusal::Unknown)
+}
+
+// Reads a message at the host. Every first byte above 80 is a reply from that number less 80.
+pub fn read(bytes: &[u8]) -> Reply
+    ensures { λ r. ⌜ replyOf r ≡ onAccepted (onMessage countedReply) (read End.Host (now (bytes .entry))) ⌝ }
+{
+    match crate::frame::read(End::Host, bytes) {
+        Framed::Refused(r) => Reply::Refused(r),
+        Framed::Whole { first, kind, count } => as_reply(first - 0x80, kind, crate::frame::part(bytes, 2, count as usize)),
+    }
+}
+
+// The values of a data message with count values that was read from these bytes: a part of them.
+pub fn values(bytes: &[u8], count: u8) -> &[u8]
+    ensures { λ r. ⌜ now r ≡ take count (drop 3 (now (bytes .entry))) ⌝ }
+{
+    crate::frame::part(bytes, 3, count as usize)
+}
+
+// The values of a group reply with count values that was read from these bytes: a part of them.
+pub fn group_values(bytes: &[u8], count: u8) -> &[u8]
+    ensures { λ r. ⌜ now r ≡ take count (drop 2 (now (bytes .entry))) ⌝ }
+{
+    crate::frame::part(bytes, 2, count as usize)
 }

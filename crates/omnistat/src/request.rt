@@ -1,6 +1,15 @@
 // What the host sends: poll, set, and the polls of the three groups. Read at the thermostat, written to the thermostat.
+ghost use mathlib.Core.Path.{_≡_};
+ghost use lib.ListN.{length, take, drop};
+ghost use Rattle.answer.specs.Answer.{onAccepted};
+ghost use Rattle.omnistat.specs.Message.{asPoll, asRun, asBare, asRequest, setFrom, pollGroup};
+ghost use Rattle.omnistat.specs.Omnistat.{read};
+ghost use Rattle.omnistat.specs.Answer.{requestOf, heardRequest, onMessage, countedRequest};
 use answer::Refusal;
+use crate::frame::End;
+use crate::frame::Framed;
 use crate::group::Group;
+use crate::message::Run;
 
 // What a message to the thermostat is. The first byte is the address that it carries. The values of a set are a part of the message,
 // which `values` hands back.
@@ -9,4 +18,84 @@ pub enum Request {
     Poll { first: u8, start: u8, count: u8 },
     Set { first: u8, start: u8, count: u8 },
     PollGroup { first: u8, group: Group },
+}
+
+// The data bytes of a poll: start and count.
+pub(crate) fn as_poll(first: u8, payload: &[u8]) -> Request
+    ensures { λ r. ⌜ requestOf r ≡ onAccepted (heardRequest first) (asPoll (now (payload .entry))) ⌝ }
+{
+    if payload.len() != 2 {
+        return Request::Refused(Refusal::TypeLength);
+    }
+    let start = payload[0];
+    let count = payload[1];
+    if count < 1 {
+        return Request::Refused(Refusal::Field);
+    }
+    if 14 < count {
+        return Request::Refused(Refusal::Field);
+    }
+    if !crate::message::is_run(start, count) {
+        return Request::Refused(Refusal::Field);
+    }
+    Request::Poll { first, start, count }
+}
+
+// The data bytes of a set: start and values.
+pub(crate) fn as_set(first: u8, payload: &[u8]) -> Request
+    ensures { λ r. ⌜ requestOf r ≡ onAccepted (heardRequest first) (asRun setFrom (now (payload .entry))) ⌝ }
+{
+    match crate::message::read_run(payload) {
+        Run::Refused(r) => Request::Refused(r),
+        Run::Registers { start, count } => Request::Set { first, start, count },
+    }
+}
+
+// The data bytes of a group poll: none.
+pub(crate) fn as_group_poll(first: u8, group: Group, payload: &[u8]) -> Request
+    ensures { λ r. ⌜ requestOf r ≡ onAccepted (heardRequest first) (asBare (pollGroup group) (now (payload .entry))) ⌝ }
+{
+    if payload.len() != 0 {
+        return Request::Refused(Refusal::TypeLength);
+    }
+    Request::PollGroup { first, group }
+}
+
+// What a type and its data bytes say to a thermostat.
+pub(crate) fn as_request(first: u8, kind: u8, payload: &[u8]) -> Request
+    ensures { λ r. ⌜ requestOf r ≡ onAccepted (heardRequest first) (asRequest kind (now (payload .entry))) ⌝ }
+{
+    if kind == 0 {
+        return as_poll(first, payload);
+    }
+    if kind == 1 {
+        return as_set(first, payload);
+    }
+    if kind == crate::group::poll_type(Group::First) {
+        return as_group_poll(first, Group::First, payload);
+    }
+    if kind == crate::group::poll_type(Group::Second) {
+        return as_group_poll(first, Group::Second, payload);
+    }
+    if kind == crate::group::poll_type(Group::Third) {
+        return as_group_poll(first, Group::Third, payload);
+    }
+    Request::Refused(Refusal::Unknown)
+}
+
+// Reads a message at the thermostat.
+pub fn read(bytes: &[u8]) -> Request
+    ensures { λ r. ⌜ requestOf r ≡ onAccepted (onMessage countedRequest) (read End.Thermostat (now (bytes .entry))) ⌝ }
+{
+    match crate::frame::read(End::Thermostat, bytes) {
+        Framed::Refused(r) => Request::Refused(r),
+        Framed::Whole { first, kind, count } => as_request(first, kind, crate::frame::part(bytes, 2, count as usize)),
+    }
+}
+
+// The values of a set of count values that was read from these bytes: a part of them.
+pub fn values(bytes: &[u8], count: u8) -> &[u8]
+    ensures { λ r. ⌜ now r ≡ take count (drop 3 (now (bytes .entry))) ⌝ }
+{
+    crate::frame::part(bytes, 3, count as usize)
 }
