@@ -88,7 +88,11 @@ pub fn pack_4_bytes(a: u8, b: u8, c: u8, d: u8) -> u64
 pub fn pack_5_bytes(a: u8, b: u8, c: u8, d: u8, e: u8) -> u64
     ensures { λ n. ⌜ n ≡ packed (accepted (byte a ∷ byte b ∷ byte c ∷ byte d ∷ byte e ∷ [])) ⌝ }
 {
-    (a as u64) * 256 + (b as u64) * 65536 + (c as u64) * 0x100_0000 + (d as u64) * 0x1_0000_0000 + (e as u64) * 0x100_0000_0000
+    (a as u64) * 256
+        + (b as u64) * 65536
+        + (c as u64) * 0x100_0000
+        + (d as u64) * 0x1_0000_0000
+        + (e as u64) * 0x100_0000_0000
 }
 
 // A packed success of three bytes and a word.

@@ -5,11 +5,11 @@ ghost use Rattle.answer.specs.Answer.{onAccepted};
 ghost use Rattle.omnistat.specs.Message.{asRun, asBare, asGroup, asReply, acknowledge, negative, dataFrom};
 ghost use Rattle.omnistat.specs.Omnistat.{read};
 ghost use Rattle.omnistat.specs.Answer.{replyOf, heardReply, onMessage, countedReply};
-use answer::Refusal;
 use crate::frame::End;
 use crate::frame::Framed;
 use crate::group::Group;
 use crate::message::Run;
+use answer::Refusal;
 
 // What a message to the host is, with the number of the thermostat that sent it. The values are a part of the message, which
 // `values` and `group_values` hand back.
@@ -47,7 +47,11 @@ pub(crate) fn as_data(number: u8, payload: &[u8]) -> Reply
 {
     match crate::message::read_run(payload) {
         Run::Refused(r) => Reply::Refused(r),
-        Run::Registers { start, count } => Reply::Data { number, start, count },
+        Run::Registers { start, count } => Reply::Data {
+            number,
+            start,
+            count,
+        },
     }
 }
 
@@ -59,7 +63,11 @@ pub(crate) fn as_group(number: u8, group: Group, payload: &[u8]) -> Reply
     if payload.len() != count as usize {
         return Reply::Refused(Refusal::TypeLength);
     }
-    Reply::Group { number, group, count }
+    Reply::Group {
+        number,
+        group,
+        count,
+    }
 }
 
 // What a type and its data bytes say to the host.
@@ -93,7 +101,11 @@ pub fn read(bytes: &[u8]) -> Reply
 {
     match crate::frame::read(End::Host, bytes) {
         Framed::Refused(r) => Reply::Refused(r),
-        Framed::Whole { first, kind, count } => as_reply(first - 0x80, kind, crate::frame::part(bytes, 2, count as usize)),
+        Framed::Whole { first, kind, count } => as_reply(
+            first - 0x80,
+            kind,
+            crate::frame::part(bytes, 2, count as usize),
+        ),
     }
 }
 

@@ -5,11 +5,11 @@ ghost use Rattle.answer.specs.Answer.{onAccepted};
 ghost use Rattle.omnistat.specs.Message.{asPoll, asRun, asBare, asRequest, setFrom, pollGroup};
 ghost use Rattle.omnistat.specs.Omnistat.{read};
 ghost use Rattle.omnistat.specs.Answer.{requestOf, heardRequest, onMessage, countedRequest};
-use answer::Refusal;
 use crate::frame::End;
 use crate::frame::Framed;
 use crate::group::Group;
 use crate::message::Run;
+use answer::Refusal;
 
 // What a message to the thermostat is. The first byte is the address that it carries. The values of a set are a part of the message,
 // which `values` hands back.
@@ -38,7 +38,11 @@ pub(crate) fn as_poll(first: u8, payload: &[u8]) -> Request
     if !crate::message::is_run(start, count) {
         return Request::Refused(Refusal::Field);
     }
-    Request::Poll { first, start, count }
+    Request::Poll {
+        first,
+        start,
+        count,
+    }
 }
 
 // The data bytes of a set: start and values.
@@ -47,7 +51,11 @@ pub(crate) fn as_set(first: u8, payload: &[u8]) -> Request
 {
     match crate::message::read_run(payload) {
         Run::Refused(r) => Request::Refused(r),
-        Run::Registers { start, count } => Request::Set { first, start, count },
+        Run::Registers { start, count } => Request::Set {
+            first,
+            start,
+            count,
+        },
     }
 }
 
@@ -89,7 +97,11 @@ pub fn read(bytes: &[u8]) -> Request
 {
     match crate::frame::read(End::Thermostat, bytes) {
         Framed::Refused(r) => Request::Refused(r),
-        Framed::Whole { first, kind, count } => as_request(first, kind, crate::frame::part(bytes, 2, count as usize)),
+        Framed::Whole { first, kind, count } => as_request(
+            first,
+            kind,
+            crate::frame::part(bytes, 2, count as usize),
+        ),
     }
 }
 

@@ -22,7 +22,7 @@ went-on c = sym (c .before .is-directed .ensures) ∙ not-false _ (c .if2 .left)
 
 tested : (c : tie.After-is-summed)
     → sumTest (now (c .before .before .before .before .before .before .before .before .before .before .before .args .bytes)) (countedLength (getD (now (c .before .before .before .before .before .before .before .before .before .before .before .args .bytes)) 1 0) - 1)
-        ≡ c .is-summed .result
+    ≡ c .is-summed .result
 tested c =
     ap (λ (n : ℕ). sumTest (now (c .before .before .before .before .before .before .before .before .before .before .before .args .bytes)) (n - 1)) (sym (c .before .before .before .counted-length .ensures))
     ∙ sym (c .is-summed .ensures)

@@ -45,10 +45,11 @@ loop-less c = omega arith
 -- src/frame.rt:56:5
 loop-again : tie.Need-loop-again Inv-loop μ-loop
 loop-again c =
-    let bytes = now (c .before .before .before .args .bytes) in
-    (omega arith,
-    ap (λ (n : ℕ). (n + getD bytes (c .before .before .loop .i) 0) % 256) (c .before .before .loop .inv .1)
-    ∙ sym (sum-next bytes (c .before .before .loop .i) (c .before .loop-test .taken)))
+    let bytes = now (c .before .before .before .args .bytes) in (
+      omega arith,
+      ap (λ (n : ℕ). (n + getD bytes (c .before .before .loop .i) 0) % 256) (c .before .before .loop .inv .1)
+          ∙ sym (sum-next bytes (c .before .before .loop .i) (c .before .loop-test .taken)),
+    )
 
 -- src/frame.rt:60:5
 cast-result : tie.Need-cast-result Inv-loop μ-loop

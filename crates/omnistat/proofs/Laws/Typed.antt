@@ -1,0 +1,136 @@
+-- A message's type and data bytes name exactly that message. Assumes nothing.
+use mathlib.Core.Path.{_≡_, refl, sym, ap, _∙_, subst}
+use mathlib.Core.Bool.{Bool, true, false, not, cond}
+use mathlib.Core.List.{List, [], _∷_}
+use mathlib.Core.Logic.{_⊎_, ⊎-elim}
+use Prim.Native.Nat.{ℕ, _<_}
+use native.Mathlib.Omega.{arith}
+use lib.Dec.{eqb}
+use lib.ListN.{length}
+use borrow.Author.Tests.{eqb-true}
+use Rattle.answer.specs.Answer.{Outcome, refused, accepted, refuseIf}
+use Rattle.omnistat.specs.declared.group.Group.{Group}
+use Rattle.omnistat.specs.declared.group.Group.the-variants.{First, Second, Third}
+use Rattle.omnistat.specs.declared.frame.End.{End}
+use Rattle.omnistat.specs.declared.frame.End.the-variants.{Thermostat, Host}
+use Rattle.omnistat.specs.Register.{within, runAllowed}
+use Rattle.omnistat.specs.Group.{pollType, replyType, replyLength}
+use Rattle.omnistat.specs.Message.{Request, Reply, poll, setFrom, pollGroup, acknowledge, negative, dataFrom, group, asBare, asPoll, asRun, asGroup, asRequest, asReply, requestKind, replyKind, requestPayload, replyPayload}
+use Rattle.omnistat.specs.Omnistat.{Message, asMessage, kindOf, payloadOf}
+use Rattle.omnistat.proofs.Laws.Outcome.{never, same-accepted, passed-not, chosen}
+
+-- a message that is made has this type and these data bytes
+module _ {M : Type 0} (kind : M → ℕ) (payload : M → List ℕ) (k : ℕ) (m : M) where
+  abbrev Made : List ℕ → Type 0
+  Made d = (kind m ≡ k) × (payload m ≡ d)
+
+  made-bare : (b : M) → kind b ≡ k → payload b ≡ [] → (d : List ℕ) → asBare b d ≡ accepted m → Made d
+  made-bare b e h [] a =
+      let g : b ≡ m = same-accepted a in
+      (ap kind (sym g) ∙ e, ap payload (sym g) ∙ h)
+  made-bare b e h (x ∷ d) a = absurd (never 7 m a)
+
+  made-run : (make : ℕ → List ℕ → M) → ((s : ℕ) (v : List ℕ) → kind (make s v) ≡ k) → ((s : ℕ) (v : List ℕ) → payload (make s v) ≡ s ∷ v)
+      → (d : List ℕ) → asRun make d ≡ accepted m → Made d
+  made-run make e h [] a = absurd (never 7 m a)
+  made-run make e h (x ∷ d) a =
+      let p = passed-not 7 (refuseIf (not (runAllowed x (length d))) 8 (accepted (make x d))) m (within 1 14 (length d)) a in
+      let q = passed-not 8 (accepted (make x d)) m (runAllowed x (length d)) (p .1) in
+      let g : make x d ≡ m = same-accepted (q .1) in
+      (ap kind (sym g) ∙ e x d, ap payload (sym g) ∙ h x d)
+
+made-poll : (m : Request (List ℕ)) (d : List ℕ) → asPoll d ≡ accepted m → (requestKind m ≡ 0) × (requestPayload m ≡ d)
+made-poll m [] a = absurd (never 7 m a)
+made-poll m (x ∷ []) a = absurd (never 7 m a)
+made-poll m (x ∷ y ∷ z ∷ d) a = absurd (never 7 m a)
+made-poll m (x ∷ y ∷ []) a =
+    let p = passed-not 8 (refuseIf (not (runAllowed x y)) 8 (accepted (poll x y))) m (within 1 14 y) a in
+    let q = passed-not 8 (accepted (poll x y)) m (runAllowed x y) (p .1) in
+    let g : poll x y ≡ m = same-accepted (q .1) in
+    (ap requestKind (sym g), ap requestPayload (sym g))
+
+made-group : (g : Group) (m : Reply (List ℕ)) (d : List ℕ) → asGroup g d ≡ accepted m → (replyKind m ≡ replyType g) × (replyPayload m ≡ d)
+made-group g m d a =
+    let p = passed-not 7 (accepted (group g d)) m (eqb (length d) (replyLength g)) a in
+    let h : group g d ≡ m = same-accepted (p .1) in
+    (ap replyKind (sym h), ap replyPayload (sym h))
+
+-- one type of the list: it is this one, or one of the later ones
+module _ {M : Type 0} (kind : M → ℕ) (payload : M → List ℕ) (t : ℕ) (d : List ℕ) (m : M) where
+  abbrev Named : ℕ → Type 0
+  Named k = (kind m ≡ k) × (payload m ≡ d)
+
+  one-of : (k : ℕ) (x y : Outcome M) → (x ≡ accepted m → Named k) → (y ≡ accepted m → Named t)
+      → cond (eqb t k) x y ≡ accepted m → Named t
+  one-of k x y this later e =
+      ⊎-elim
+      (λ w. let n = this (w .1) in (n .0 ∙ sym (eqb-true t k (w .0)), n .1))
+      (λ w. later (w .1))
+      (chosen (eqb t k) x y (accepted m) e)
+
+named-request : (t : ℕ) (d : List ℕ) (m : Request (List ℕ)) → asRequest t d ≡ accepted m → (requestKind m ≡ t) × (requestPayload m ≡ d)
+unfolding asRequest
+named-request t d m =
+    one-of requestKind requestPayload t d m 0 _ _ (made-poll m d)
+    (one-of requestKind requestPayload t d m 1 _ _ (made-run requestKind requestPayload 1 m setFrom (λ s v. refl) (λ s v. refl) d)
+    (one-of requestKind requestPayload t d m 2 _ _ (made-bare requestKind requestPayload 2 m (pollGroup First) refl refl d)
+    (one-of requestKind requestPayload t d m 3 _ _ (made-bare requestKind requestPayload 3 m (pollGroup Second) refl refl d)
+    (one-of requestKind requestPayload t d m 4 _ _ (made-bare requestKind requestPayload 4 m (pollGroup Third) refl refl d)
+    (λ e. absurd (never 6 m e))))))
+
+named-reply : (t : ℕ) (d : List ℕ) (m : Reply (List ℕ)) → asReply t d ≡ accepted m → (replyKind m ≡ t) × (replyPayload m ≡ d)
+unfolding asReply
+named-reply t d m =
+    one-of replyKind replyPayload t d m 0 _ _ (made-bare replyKind replyPayload 0 m acknowledge refl refl d)
+    (one-of replyKind replyPayload t d m 1 _ _ (made-bare replyKind replyPayload 1 m negative refl refl d)
+    (one-of replyKind replyPayload t d m 2 _ _ (made-run replyKind replyPayload 2 m dataFrom (λ s v. refl) (λ s v. refl) d)
+    (one-of replyKind replyPayload t d m 3 _ _ (made-group First m d)
+    (one-of replyKind replyPayload t d m 4 _ _ (made-group Second m d)
+    (one-of replyKind replyPayload t d m 5 _ _ (made-group Third m d)
+    (λ e. absurd (never 6 m e)))))))
+
+-- what is accepted for a type and data bytes has that type and those data bytes
+pub named : (end : End) (t : ℕ) (d : List ℕ) (m : Message end) → asMessage end t d ≡ accepted m → (kindOf end m ≡ t) × (payloadOf end m ≡ d)
+named Thermostat t d m e = named-request t d m e
+named Host t d m e = named-reply t d m e
+
+-- every type fits its half of the second byte
+poll-type-fits : (g : Group) → pollType g < 16
+poll-type-fits First = omega arith
+poll-type-fits Second = omega arith
+poll-type-fits Third = omega arith
+
+reply-type-fits : (g : Group) → replyType g < 16
+reply-type-fits First = omega arith
+reply-type-fits Second = omega arith
+reply-type-fits Third = omega arith
+
+pub kind-fits : (end : End) (m : Message end) → kindOf end m < 16
+kind-fits Thermostat (poll start count) = omega arith
+kind-fits Thermostat (setFrom start values) = omega arith
+kind-fits Thermostat (pollGroup g) = poll-type-fits g
+kind-fits Host acknowledge = omega arith
+kind-fits Host negative = omega arith
+kind-fits Host (dataFrom start values) = omega arith
+kind-fits Host (group g values) = reply-type-fits g
+
+-- a typed message's own type and data bytes are that message, where they are accepted
+pub again : (end : End) (m n : Message end) → asMessage end (kindOf end m) (payloadOf end m) ≡ accepted n → m ≡ n
+unfolding asRequest asReply
+again Thermostat (poll start count) n e =
+    let p = passed-not 8 (refuseIf (not (runAllowed start count)) 8 (accepted (poll start count))) n (within 1 14 count) e in
+    same-accepted (passed-not 8 (accepted (poll start count)) n (runAllowed start count) (p .1) .1)
+again Thermostat (setFrom start values) n e =
+    let p = passed-not 7 (refuseIf (not (runAllowed start (length values))) 8 (accepted (setFrom start values))) n (within 1 14 (length values)) e in
+    same-accepted (passed-not 8 (accepted (setFrom start values)) n (runAllowed start (length values)) (p .1) .1)
+again Thermostat (pollGroup First) n e = same-accepted e
+again Thermostat (pollGroup Second) n e = same-accepted e
+again Thermostat (pollGroup Third) n e = same-accepted e
+again Host acknowledge n e = same-accepted e
+again Host negative n e = same-accepted e
+again Host (dataFrom start values) n e =
+    let p = passed-not 7 (refuseIf (not (runAllowed start (length values))) 8 (accepted (dataFrom start values))) n (within 1 14 (length values)) e in
+    same-accepted (passed-not 8 (accepted (dataFrom start values)) n (runAllowed start (length values)) (p .1) .1)
+again Host (group First values) n e = same-accepted (passed-not 7 (accepted (group First values)) n (eqb (length values) 6) e .1)
+again Host (group Second values) n e = same-accepted (passed-not 7 (accepted (group Second values)) n (eqb (length values) 6) e .1)
+again Host (group Third values) n e = same-accepted (passed-not 7 (accepted (group Third values)) n (eqb (length values) 10) e .1)
