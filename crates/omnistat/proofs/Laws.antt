@@ -2,6 +2,7 @@ pub mod Frame
 pub mod Message
 pub mod Omnistat
 pub mod Outcome
+pub mod Output
 pub mod Part
 pub mod Run
 pub mod Sum

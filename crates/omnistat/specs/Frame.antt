@@ -58,6 +58,9 @@ pub record Frame : Type 0 where
   pub kind : ℕ
   pub payload : List ℕ
 
+abbrev pub framed : ℕ → ℕ → List ℕ → Frame
+framed first kind payload = record { first = first; kind = kind; payload = payload }
+
 -- the order of the checks: empty 1; direction 2; one byte 1; fewer than N+3 bytes 1; more 4; sum 5
 unfoldable pub frame : End → List ℕ → Outcome Frame
 frame end [] = refused 1
@@ -67,7 +70,7 @@ frame end (first ∷ second ∷ rest) =
     (refuseIf (ltb (length (first ∷ second ∷ rest)) (countedLength second)) 1
     (refuseIf (ltb (countedLength second) (length (first ∷ second ∷ rest))) 4
     (refuseIf (not (eqb (getD rest (lengthHalf second) 0) (sumOf (first ∷ second ∷ take (lengthHalf second) rest)))) 5
-    (accepted (record { first = first; kind = typeHalf second; payload = take (lengthHalf second) rest })))))
+    (accepted (framed first (typeHalf second) (take (lengthHalf second) rest))))))
 
 -- a message's bytes: the sum follows all earlier bytes
 abbrev pub summed : List ℕ → List ℕ

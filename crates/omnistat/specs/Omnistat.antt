@@ -5,7 +5,7 @@ use mathlib.Core.List.{List}
 use Rattle.answer.specs.Answer.{Outcome, refused, accepted, refuseIf, onAccepted, andThen}
 use Rattle.omnistat.specs.declared.frame.End.{End}
 use Rattle.omnistat.specs.declared.frame.End.the-variants.{Thermostat, Host}
-use Rattle.omnistat.specs.Frame.{Frame, frame, bytesOf, addressOf, addressable, firstOf}
+use Rattle.omnistat.specs.Frame.{Frame, framed, frame, bytesOf, addressOf, addressable, firstOf}
 use Rattle.omnistat.specs.Message.{Request, Reply, asRequest, asReply, requestKind, replyKind, requestPayload, replyPayload}
 
 -- what is read at each end
@@ -43,7 +43,7 @@ unfoldable pub writeBytes : (end : End) → ℕ → ℕ → List ℕ → Outcome
 writeBytes end address kind payload =
     andThen (asMessage end kind payload)
     (λ m. refuseIf (not (addressable end address)) 8
-    (accepted (bytesOf (record { first = firstOf end address; kind = kind; payload = payload }))))
+    (accepted (bytesOf (framed (firstOf end address) kind payload))))
 
 -- a typed message to write: its type and data bytes
 abbrev pub write : (end : End) → ℕ → Message end → Outcome (List ℕ)

@@ -1,12 +1,14 @@
 // The frame of an Omnistat2 message: address byte, length and type, data bytes, sum.
 ghost use mathlib.Core.Path.{_≡_};
-ghost use Prim.Native.Nat.{_<_, _≤_};
+ghost use Prim.Native.Nat.{_+_, _<_, _≤_};
 ghost use lib.ListN.{length, getD, take, drop};
 ghost use lib.Dec.{eqb};
+ghost use lib.Seq.{paste};
 ghost use Rattle.answer.specs.Answer.{writtenOf, accepted, onAccepted, inRoom, outAfter};
-ghost use Rattle.omnistat.specs.Frame.{directed, countedLength, sumOf, frame};
+ghost use Rattle.omnistat.specs.Frame.{directed, countedLength, sumOf, frame, framed, bytesOf};
 ghost use Rattle.omnistat.specs.Answer.{framedIn};
 use answer::Refusal;
+use answer::Written;
 
 // The end that a message is for.
 pub enum End {
@@ -112,4 +114,35 @@ pub(crate) fn part(bytes: &[u8], from: usize, count: usize) -> &[u8]
     }
     let past = from + count;
     &bytes[from..past]
+}
+
+// Copies all of `from` into `out`, at a place.
+pub(crate) fn copy(out: &mut [u8], at: usize, from: &[u8])
+    requires { ⌜ at + length (now from) ≤ length (now out) ⌝ }
+    ensures { λ r. ⌜ now (out .exit) ≡ paste (now (out .entry)) at (now (from .entry)) (length (now (from .entry))) ⌝ }
+{
+    let mut i = 0;
+    while i < from.len() {
+        out[at + i] = from[i];
+        i += 1;
+    }
+}
+
+// Writes a frame, with its sum, where there is room.
+pub(crate) fn write(first: u8, kind: u8, payload: &[u8], out: &mut [u8]) -> Written
+    requires { ⌜ kind < 16 ⌝ }
+    requires { ⌜ length (now payload) ≤ 15 ⌝ }
+    ensures { λ r. ⌜ writtenOf r ≡ onAccepted length (inRoom (length (now (out .entry))) (accepted (bytesOf (framed first kind (now (payload .entry)))))) ⌝ }
+    ensures { λ r. ⌜ now (out .exit) ≡ outAfter (inRoom (length (now (out .entry))) (accepted (bytesOf (framed first kind (now (payload .entry)))))) (now (out .entry)) ⌝ }
+{
+    let last = payload.len() + 2;
+    if out.len() <= last {
+        return Written::Refused(Refusal::Room);
+    }
+    out[0] = first;
+    out[1] = (payload.len() as u8) * 16 + kind;
+    copy(out, 2, payload);
+    let s = sum(&out[..last]);
+    out[last] = s;
+    Written::Count((last + 1) as u32)
 }
