@@ -12,6 +12,8 @@ use Rattle.omnistat.specs.declared.frame.Framed.{Framed}
 use Rattle.omnistat.specs.declared.frame.Framed.the-variants.{Refused as FrameRefused, Whole}
 use Rattle.omnistat.specs.declared.message.Run.{Run}
 use Rattle.omnistat.specs.declared.message.Run.the-variants.{Refused as RunRefused, Registers}
+use Rattle.omnistat.specs.declared.message.Check.{Check}
+use Rattle.omnistat.specs.declared.message.Check.the-variants.{Refused as CheckRefused, Passed}
 use Rattle.omnistat.specs.declared.request.Request.{Request as RequestAnswer}
 use Rattle.omnistat.specs.declared.request.Request.the-variants.{Refused as RequestRefused, Poll, Set, PollGroup}
 use Rattle.omnistat.specs.declared.reply.Reply.{Reply as ReplyAnswer}
@@ -21,6 +23,14 @@ use Rattle.omnistat.specs.declared.reply.Reply.the-variants.{Refused as 
 abbrev pub framedIn : List ℕ → Framed → Outcome Frame
 framedIn bytes (FrameRefused r) = refused (numberOf r)
 framedIn bytes (Whole first kind count) = accepted (record { first = first; kind = kind; payload = take count (drop 2 bytes) })
+
+-- only that a message is accepted
+abbrev pub passed : {M : Type 0} → M → Unit {0}
+passed m = tt
+
+abbrev pub checkOf : Check → Outcome (Unit {0})
+checkOf (CheckRefused r) = refused (numberOf r)
+checkOf Passed = accepted tt
 
 -- a start register and the count of its values
 pub record Span : Type 0 where

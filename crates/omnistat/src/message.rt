@@ -1,5 +1,8 @@
 // What the messages of both ends share: the rule for runs of registers, and a start register with its values.
 ghost use mathlib.Core.Path.{_≡_};
+ghost use mathlib.Core.List.{_∷_};
+ghost use Prim.Native.Nat.{_+_, _≤_};
+ghost use lib.ListN.{length, take};
 ghost use Rattle.omnistat.specs.Register.{runAllowed};
 ghost use Rattle.omnistat.specs.Message.{asRun};
 ghost use Rattle.omnistat.specs.Answer.{runOf, span};
@@ -41,4 +44,21 @@ pub(crate) fn read_run(payload: &[u8]) -> Run
         return Run::Refused(Refusal::Field);
     }
     Run::Registers { start, count }
+}
+
+// Whether a type and its data bytes are a message's.
+pub enum Check {
+    Refused(Refusal),
+    Passed,
+}
+
+// The data bytes of a set or data message to write: the start register and the values, in the first bytes of the array.
+pub(crate) fn run_payload(start: u8, values: &[u8]) -> [u8; 15]
+    requires { ⌜ length (now values) ≤ 14 ⌝ }
+    ensures { λ r. ⌜ take (length (now (values .entry)) + 1) r ≡ start ∷ now (values .entry) ⌝ }
+{
+    let mut payload = [0u8; 15];
+    payload[0] = start;
+    crate::frame::copy(&mut payload, 1, values);
+    payload
 }

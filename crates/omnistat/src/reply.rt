@@ -1,15 +1,18 @@
 // What a thermostat replies: acknowledge, negative, data, and the three groups. Read at the host, written to the host.
 ghost use mathlib.Core.Path.{_≡_};
 ghost use lib.ListN.{length, take, drop};
-ghost use Rattle.answer.specs.Answer.{onAccepted};
+ghost use Rattle.answer.specs.Answer.{onAccepted, inRoom, outAfter, writtenOf};
 ghost use Rattle.omnistat.specs.Message.{asRun, asBare, asGroup, asReply, acknowledge, negative, dataFrom};
-ghost use Rattle.omnistat.specs.Omnistat.{read};
-ghost use Rattle.omnistat.specs.Answer.{replyOf, heardReply, onMessage, countedReply};
+ghost use Rattle.omnistat.specs.Omnistat.{read, writeBytes};
+ghost use Rattle.omnistat.specs.Frame.{addressable};
+ghost use Rattle.omnistat.specs.Answer.{replyOf, checkOf, passed, heardReply, onMessage, countedReply};
 use crate::frame::End;
 use crate::frame::Framed;
 use crate::group::Group;
+use crate::message::Check;
 use crate::message::Run;
 use answer::Refusal;
+use answer::Written;
 
 // What a message to the host is, with the number of the thermostat that sent it. The values are a part of the message, which
 // `values` and `group_values` hand back.
@@ -121,4 +124,43 @@ pub fn group_values(bytes: &[u8], count: u8) -> &[u8]
     ensures { λ r. ⌜ now r ≡ take count (drop 2 (now (bytes .entry))) ⌝ }
 {
     crate::frame::part(bytes, 2, count as usize)
+}
+
+// Whether a type and its data bytes are a reply.
+pub(crate) fn check(kind: u8, payload: &[u8]) -> Check
+    ensures { λ r. ⌜ checkOf r ≡ onAccepted passed (asReply kind (now (payload .entry))) ⌝ }
+{
+    match as_reply(0, kind, payload) {
+        Reply::Refused(r) => Check::Refused(r),
+        Reply::Acknowledge { number: _ } => Check::Passed,
+        Reply::Negative { number: _ } => Check::Passed,
+        Reply::Data { number: _, start: _, count: _ } => Check::Passed,
+        Reply::Group { number: _, group: _, count: _ } => Check::Passed,
+    }
+}
+
+// Whether a reply may carry this number.
+pub(crate) fn is_number(number: u8) -> bool
+    ensures { λ r. ⌜ r ≡ addressable End.Host number ⌝ }
+{
+    if number < 1 {
+        return false;
+    }
+    number <= 0x7F
+}
+
+// Writes the reply that a type number and data bytes make. The number is that of the thermostat, 01 to 7F.
+pub fn write(number: u8, kind: u8, payload: &[u8], out: &mut [u8]) -> Written
+    ensures { λ r. ⌜ writtenOf r ≡ onAccepted length (inRoom (length (now (out .entry))) (writeBytes End.Host number kind (now (payload .entry)))) ⌝ }
+    ensures { λ r. ⌜ now (out .exit) ≡ outAfter (inRoom (length (now (out .entry))) (writeBytes End.Host number kind (now (payload .entry)))) (now (out .entry)) ⌝ }
+{
+    match check(kind, payload) {
+        Check::Refused(r) => Written::Refused(r),
+        Check::Passed => {
+            if !is_number(number) {
+                return Written::Refused(Refusal::Field);
+            }
+            crate::frame::write(number + 0x80, kind, payload, out)
+        }
+    }
 }

@@ -1,15 +1,17 @@
 // What the host sends: poll, set, and the polls of the three groups. Read at the thermostat, written to the thermostat.
 ghost use mathlib.Core.Path.{_≡_};
 ghost use lib.ListN.{length, take, drop};
-ghost use Rattle.answer.specs.Answer.{onAccepted};
+ghost use Rattle.answer.specs.Answer.{onAccepted, inRoom, outAfter, writtenOf};
 ghost use Rattle.omnistat.specs.Message.{asPoll, asRun, asBare, asRequest, setFrom, pollGroup};
-ghost use Rattle.omnistat.specs.Omnistat.{read};
-ghost use Rattle.omnistat.specs.Answer.{requestOf, heardRequest, onMessage, countedRequest};
+ghost use Rattle.omnistat.specs.Omnistat.{read, writeBytes};
+ghost use Rattle.omnistat.specs.Answer.{requestOf, checkOf, passed, heardRequest, onMessage, countedRequest};
 use crate::frame::End;
 use crate::frame::Framed;
 use crate::group::Group;
+use crate::message::Check;
 use crate::message::Run;
 use answer::Refusal;
+use answer::Written;
 
 // What a message to the thermostat is. The first byte is the address that it carries. The values of a set are a part of the message,
 // which `values` hands back.
@@ -110,4 +112,32 @@ pub fn values(bytes: &[u8], count: u8) -> &[u8]
     ensures { λ r. ⌜ now r ≡ take count (drop 3 (now (bytes .entry))) ⌝ }
 {
     crate::frame::part(bytes, 3, count as usize)
+}
+
+// Whether a type and its data bytes are a message to a thermostat.
+pub(crate) fn check(kind: u8, payload: &[u8]) -> Check
+    ensures { λ r. ⌜ checkOf r ≡ onAccepted passed (asRequest kind (now (payload .entry))) ⌝ }
+{
+    match as_request(0, kind, payload) {
+        Request::Refused(r) => Check::Refused(r),
+        Request::Poll { first: _, start: _, count: _ } => Check::Passed,
+        Request::Set { first: _, start: _, count: _ } => Check::Passed,
+        Request::PollGroup { first: _, group: _ } => Check::Passed,
+    }
+}
+
+// Writes the message to a thermostat that a type number and data bytes make. The address is 00, 01 to 7F or FA.
+pub fn write(address: u8, kind: u8, payload: &[u8], out: &mut [u8]) -> Written
+    ensures { λ r. ⌜ writtenOf r ≡ onAccepted length (inRoom (length (now (out .entry))) (writeBytes End.Thermostat address kind (now (payload .entry)))) ⌝ }
+    ensures { λ r. ⌜ now (out .exit) ≡ outAfter (inRoom (length (now (out .entry))) (writeBytes End.Thermostat address kind (now (payload .entry)))) (now (out .entry)) ⌝ }
+{
+    match check(kind, payload) {
+        Check::Refused(r) => Written::Refused(r),
+        Check::Passed => {
+            if !crate::frame::is_to_thermostat(address) {
+                return Written::Refused(Refusal::Field);
+            }
+            crate::frame::write(address, kind, payload, out)
+        }
+    }
 }

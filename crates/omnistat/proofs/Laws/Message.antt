@@ -1,12 +1,12 @@
 -- What a type and its data bytes say, decided check by check. Assumes nothing.
 use mathlib.Core.Path.{_≡_, refl, ap, _∙_, sym}
-use mathlib.Core.Bool.{Bool, true, false, not, cond, and-false}
+use mathlib.Core.Bool.{Bool, true, false, not, cond, _&&_, and-false}
 use mathlib.Core.List.{List, [], _∷_}
 use Prim.Native.Nat.{ℕ, suc, _-_, _<_, _≤_}
 use native.Mathlib.Omega.{arith}
 use lib.ListN.{length, getD, drop}
-use lib.Dec.{eqb}
-use borrow.Author.Tests.{le-leb, lt-leb, eq-eqb, ne-eqb}
+use lib.Dec.{eqb, leb}
+use borrow.Author.Tests.{le-leb, lt-leb, leb-true, eq-eqb, ne-eqb}
 use Rattle.answer.specs.Answer.{Outcome, refused, accepted, refuseIf, onAccepted}
 use Rattle.omnistat.specs.declared.group.Group.{Group}
 use Rattle.omnistat.specs.declared.group.Group.the-variants.{First, Second, Third}
@@ -25,6 +25,16 @@ module _ (lo hi n : ℕ) where
 
   pub inside : lo ≤ n → n ≤ hi → within lo hi n ≡ true
   inside h k = simp (le-leb lo n h, le-leb n hi k)
+
+-- a number between two others
+and-parts : (a b : Bool) → (a && b) ≡ true → (a ≡ true) × (b ≡ true)
+and-parts true b e = (refl, e)
+and-parts false b e = let z : _≡_ {A = ℕ} 0 1 = cc in absurd (omega arith)
+
+pub within-both : (lo hi n : ℕ) → within lo hi n ≡ true → (lo ≤ n) × (n ≤ hi)
+within-both lo hi n e =
+    let p = and-parts (leb lo n) (leb n hi) e in
+    (leb-true lo n (p .0), leb-true n hi (p .1))
 
 -- no data bytes
 pub bare : {M : Type 0} (m : M) (d : List ℕ) → length d ≡ 0 → asBare m d ≡ accepted m

@@ -11,14 +11,14 @@ use Rattle.answer.specs.Answer.{Outcome, refused, accepted, refuseIf, onAccepte
 use Rattle.omnistat.specs.declared.frame.End.{End}
 use Rattle.omnistat.specs.declared.frame.End.the-variants.{Thermostat, Host}
 use Rattle.omnistat.specs.Register.{within}
-use Rattle.omnistat.specs.Frame.{Frame, frame, directed, addressOf, addressable, firstOf, bytesOf}
+use Rattle.omnistat.specs.Frame.{Frame, framed, frame, directed, addressOf, addressable, firstOf, bytesOf}
 use Rattle.omnistat.specs.Message.{Request, Reply, asRequest, asReply}
 use Rattle.omnistat.specs.Omnistat.{Message, asMessage, kindOf, payloadOf, Addressed, addressed, read, write, writeBytes}
-use Rattle.omnistat.specs.Answer.{onMessage, countedRequest, countedReply, heardRequest, heardReply}
-use Rattle.omnistat.proofs.Laws.Outcome.{never, same-accepted, passed-not, then-accepted, on-accepted}
+use Rattle.omnistat.specs.Answer.{onMessage, countedRequest, countedReply, heardRequest, heardReply, passed}
+use Rattle.omnistat.proofs.Laws.Outcome.{never, same-accepted, passed-not, then-accepted, on-accepted, heard-twice, still-refused}
 use Rattle.omnistat.proofs.Laws.Frame.{taken-apart, read-back}
-use Rattle.omnistat.proofs.Laws.Message.{inside}
-use Rattle.omnistat.proofs.Laws.Typed.{named, kind-fits, again}
+use Rattle.omnistat.proofs.Laws.Message.{inside, within-both}
+use Rattle.omnistat.proofs.Laws.Typed.{named, kind-fits, payload-fits, again}
 
 -- reading, by the frame
 module _ (end : End) (s : List ℕ) where
@@ -30,10 +30,6 @@ module _ (end : End) (s : List ℕ) where
       → read end s ≡ onAccepted (addressed (addressOf end (f .first))) (asMessage end (f .kind) (f .payload))
   unfolding read
   read-whole f e = rw (← e)
-
-heard-twice : {A B C : Type 0} (f : A → B) (g : B → C) (o : Outcome A) → onAccepted g (onAccepted f o) ≡ onAccepted (λ a. g (f a)) o
-heard-twice f g (refused n) = refl
-heard-twice f g (accepted a) = refl
 
 -- what the readers hand back
 pub request-heard : (s : List ℕ) (f : Frame) → accepted f ≡ frame Thermostat s
@@ -47,16 +43,6 @@ pub reply-heard : (s : List ℕ) (f : Frame) → accepted f ≡ frame Host s
 reply-heard s f e =
     ap (onAccepted (onMessage countedReply)) (read-whole Host s f e)
     ∙ heard-twice (addressed (f .first - 0x80)) (onMessage countedReply) (asReply (f .kind) (f .payload))
-
--- a number between two others
-and-parts : (a b : Bool) → (a && b) ≡ true → (a ≡ true) × (b ≡ true)
-and-parts true b e = (refl, e)
-and-parts false b e = let z : _≡_ {A = ℕ} 0 1 = cc in absurd (omega arith)
-
-within-both : (lo hi n : ℕ) → within lo hi n ≡ true → (lo ≤ n) × (n ≤ hi)
-within-both lo hi n e =
-    let p = and-parts (leb lo n) (leb n hi) e in
-    (leb-true lo n (p .0), leb-true n hi (p .1))
 
 -- the first byte and the address name one another
 pub from-host : (s : List ℕ) (f : Frame) → accepted f ≡ frame Host s → 0x80 ≤ f .first
@@ -136,3 +122,29 @@ write-after-read end address m bytes e =
     ∙ ap (λ (d : List ℕ). writeBytes end (addressOf end (f .first)) (f .kind) d) (ap (payloadOf end) (sym g) ∙ n .1)
     ∙ written-again end f (q .0) (q .1) (t .0)
     ∙ ap accepted (t .2)
+
+-- writing, by what the checks of the type and the data bytes say
+module _ (end : End) (address kind : ℕ) (payload : List ℕ) where
+  pub write-refused : (n : ℕ) → refused n ≡ onAccepted passed (asMessage end kind payload) → writeBytes end address kind payload ≡ refused n
+  unfolding writeBytes
+  write-refused n e = simp (still-refused passed (asMessage end kind payload) n (sym e))
+
+  module _ (e : accepted tt ≡ onAccepted passed (asMessage end kind payload)) where
+    pub frame-fits : (kind < 16) × (length payload ≤ 15)
+    frame-fits =
+        let p = on-accepted passed (asMessage end kind payload) tt (sym e) in
+        (subst (λ (k : ℕ). k < 16) (named end kind payload (p .0) (p .1) .0) (kind-fits end (p .0)),
+        payload-fits end kind payload (p .0) (p .1))
+
+    pub write-misaddressed : addressable end address ≡ false → writeBytes end address kind payload ≡ refused 8
+    unfolding writeBytes
+    write-misaddressed a =
+        let p = on-accepted passed (asMessage end kind payload) tt (sym e) in
+        simp (p .1, a)
+
+    pub write-framed : addressable end address ≡ true
+        → writeBytes end address kind payload ≡ accepted (bytesOf (framed (firstOf end address) kind payload))
+    unfolding writeBytes
+    write-framed a =
+        let p = on-accepted passed (asMessage end kind payload) tt (sym e) in
+        simp (p .1, a)

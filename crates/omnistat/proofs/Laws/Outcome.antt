@@ -5,6 +5,7 @@ use mathlib.Core.Logic.{_⊎_, inl, inr}
 use Prim.Native.Nat.{ℕ}
 use native.Mathlib.Omega.{arith}
 use Rattle.answer.specs.Answer.{Outcome, refused, accepted, refuseIf, onAccepted, andThen}
+use Rattle.omnistat.specs.Answer.{passed as passed-check}
 
 pub never : {A : Type 0} (n : ℕ) (a : A) → refused n ≡ accepted a → ⊥
 never n a e = let z : _≡_ {A = ℕ} 0 1 = cc in omega arith
@@ -35,3 +36,15 @@ module _ {A B : Type 0} where
 pub chosen : {A : Type 0} (t : Bool) (x y z : A) → cond t x y ≡ z → ((t ≡ true) × (x ≡ z)) ⊎ ((t ≡ false) × (y ≡ z))
 chosen true x y z e = inl (refl, e)
 chosen false x y z e = inr (refl, e)
+
+pub heard-twice : {A B C : Type 0} (f : A → B) (g : B → C) (o : Outcome A) → onAccepted g (onAccepted f o) ≡ onAccepted (λ a. g (f a)) o
+heard-twice f g (refused n) = refl
+heard-twice f g (accepted a) = refl
+
+pub still-refused : {A B : Type 0} (f : A → B) (o : Outcome A) (n : ℕ) → onAccepted f o ≡ refused n → o ≡ refused n
+still-refused f (refused m) n e = let h : m ≡ n = cc in ap refused h
+still-refused f (accepted a) n e = absurd (never n (f a) (sym e))
+
+-- only whether it is accepted: f of what is accepted says the same
+pub checked : {A B : Type 0} (f : A → B) (o : Outcome A) (q : Outcome B) → q ≡ onAccepted f o → onAccepted passed-check q ≡ onAccepted passed-check o
+checked f o q e = ap (onAccepted passed-check) e ∙ heard-twice f passed-check o

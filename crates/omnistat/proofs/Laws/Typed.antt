@@ -3,7 +3,7 @@ use mathlib.Core.Path.{_≡_, refl, sym, ap, _∙_, subst}
 use mathlib.Core.Bool.{Bool, true, false, not, cond}
 use mathlib.Core.List.{List, [], _∷_}
 use mathlib.Core.Logic.{_⊎_, ⊎-elim}
-use Prim.Native.Nat.{ℕ, _<_}
+use Prim.Native.Nat.{ℕ, _<_, _≤_}
 use native.Mathlib.Omega.{arith}
 use lib.Dec.{eqb}
 use lib.ListN.{length}
@@ -18,6 +18,7 @@ use Rattle.omnistat.specs.Group.{pollType, replyType, replyLength}
 use Rattle.omnistat.specs.Message.{Request, Reply, poll, setFrom, pollGroup, acknowledge, negative, dataFrom, group, asBare, asPoll, asRun, asGroup, asRequest, asReply, requestKind, replyKind, requestPayload, replyPayload}
 use Rattle.omnistat.specs.Omnistat.{Message, asMessage, kindOf, payloadOf}
 use Rattle.omnistat.proofs.Laws.Outcome.{never, same-accepted, passed-not, chosen}
+use Rattle.omnistat.proofs.Laws.Message.{within-both}
 
 -- a message that is made has this type and these data bytes
 module _ {M : Type 0} (kind : M → ℕ) (payload : M → List ℕ) (k : ℕ) (m : M) where
@@ -134,3 +135,54 @@ again Host (dataFrom start values) n e =
 again Host (group First values) n e = same-accepted (passed-not 7 (accepted (group First values)) n (eqb (length values) 6) e .1)
 again Host (group Second values) n e = same-accepted (passed-not 7 (accepted (group Second values)) n (eqb (length values) 6) e .1)
 again Host (group Third values) n e = same-accepted (passed-not 7 (accepted (group Third values)) n (eqb (length values) 10) e .1)
+
+-- data bytes that are accepted fit the other half
+module _ {M : Type 0} (m : M) where
+  small-bare : (b : M) (d : List ℕ) → asBare b d ≡ accepted m → length d ≤ 15
+  small-bare b [] a = omega arith
+  small-bare b (x ∷ d) a = absurd (never 7 m a)
+
+  small-run : (make : ℕ → List ℕ → M) (d : List ℕ) → asRun make d ≡ accepted m → length d ≤ 15
+  small-run make [] a = absurd (never 7 m a)
+  small-run make (x ∷ d) a =
+      let p = passed-not 7 (refuseIf (not (runAllowed x (length d))) 8 (accepted (make x d))) m (within 1 14 (length d)) a in
+      omega (arith, within-both 1 14 (length d) (p .0) .1)
+
+small-poll : (m : Request (List ℕ)) (d : List ℕ) → asPoll d ≡ accepted m → length d ≤ 15
+small-poll m [] a = omega arith
+small-poll m (x ∷ []) a = omega arith
+small-poll m (x ∷ y ∷ []) a = omega arith
+small-poll m (x ∷ y ∷ z ∷ d) a = absurd (never 7 m a)
+
+reply-length-fits : (g : Group) → replyLength g ≤ 15
+reply-length-fits First = omega arith
+reply-length-fits Second = omega arith
+reply-length-fits Third = omega arith
+
+small-group : (g : Group) (m : Reply (List ℕ)) (d : List ℕ) → asGroup g d ≡ accepted m → length d ≤ 15
+small-group g m d a =
+    let e : length d ≡ replyLength g
+        = eqb-true (length d) (replyLength g) (passed-not 7 (accepted (group g d)) m (eqb (length d) (replyLength g)) a .0) in
+    omega (arith, reply-length-fits g)
+
+either-way : {A P : Type 0} (t : Bool) (x y z : A) → (x ≡ z → P) → (y ≡ z → P) → cond t x y ≡ z → P
+either-way true x y z f g e = f e
+either-way false x y z f g e = g e
+
+pub payload-fits : (end : End) (t : ℕ) (d : List ℕ) (m : Message end) → asMessage end t d ≡ accepted m → length d ≤ 15
+unfolding asRequest asReply
+payload-fits Thermostat t d m =
+    either-way (eqb t 0) _ _ _ (small-poll m d)
+    (either-way (eqb t 1) _ _ _ (small-run m setFrom d)
+    (either-way (eqb t 2) _ _ _ (small-bare m (pollGroup First) d)
+    (either-way (eqb t 3) _ _ _ (small-bare m (pollGroup Second) d)
+    (either-way (eqb t 4) _ _ _ (small-bare m (pollGroup Third) d)
+    (λ e. absurd (never 6 m e))))))
+payload-fits Host t d m =
+    either-way (eqb t 0) _ _ _ (small-bare m acknowledge d)
+    (either-way (eqb t 1) _ _ _ (small-bare m negative d)
+    (either-way (eqb t 2) _ _ _ (small-run m dataFrom d)
+    (either-way (eqb t 3) _ _ _ (small-group First m d)
+    (either-way (eqb t 4) _ _ _ (small-group Second m d)
+    (either-way (eqb t 5) _ _ _ (small-group Third m d)
+    (λ e. absurd (never 6 m e)))))))
