@@ -2,8 +2,8 @@
 ghost use mathlib.Core.Path.{_≡_};
 ghost use lib.ListN.{length, take, drop};
 ghost use Rattle.answer.specs.Answer.{onAccepted, inRoom, outAfter, writtenOf};
-ghost use Rattle.omnistat.specs.Message.{asRun, asBare, asGroup, asReply, acknowledge, negative, dataFrom};
-ghost use Rattle.omnistat.specs.Omnistat.{read, writeBytes};
+ghost use Rattle.omnistat.specs.Message.{asRun, asBare, asGroup, asReply, acknowledge, negative, dataFrom, group as groupValues};
+ghost use Rattle.omnistat.specs.Omnistat.{read, write, writeBytes};
 ghost use Rattle.omnistat.specs.Frame.{addressable};
 ghost use Rattle.omnistat.specs.Answer.{replyOf, checkOf, passed, heardReply, onMessage, countedReply};
 use crate::frame::End;
@@ -163,4 +163,43 @@ pub fn write(number: u8, kind: u8, payload: &[u8], out: &mut [u8]) -> Written
             crate::frame::write(number + 0x80, kind, payload, out)
         }
     }
+}
+
+// Writes an acknowledge.
+pub fn write_acknowledge(number: u8, out: &mut [u8]) -> Written
+    ensures { λ r. ⌜ writtenOf r ≡ onAccepted length (inRoom (length (now (out .entry))) (write End.Host number acknowledge)) ⌝ }
+    ensures { λ r. ⌜ now (out .exit) ≡ outAfter (inRoom (length (now (out .entry))) (write End.Host number acknowledge)) (now (out .entry)) ⌝ }
+{
+    let none = [0u8; 1];
+    write(number, 0, &none[..0], out)
+}
+
+// Writes a negative.
+pub fn write_negative(number: u8, out: &mut [u8]) -> Written
+    ensures { λ r. ⌜ writtenOf r ≡ onAccepted length (inRoom (length (now (out .entry))) (write End.Host number negative)) ⌝ }
+    ensures { λ r. ⌜ now (out .exit) ≡ outAfter (inRoom (length (now (out .entry))) (write End.Host number negative)) (now (out .entry)) ⌝ }
+{
+    let none = [0u8; 1];
+    write(number, 1, &none[..0], out)
+}
+
+// Writes data: the contents of registers from a start, lent as values.
+pub fn write_data(number: u8, start: u8, values: &[u8], out: &mut [u8]) -> Written
+    ensures { λ r. ⌜ writtenOf r ≡ onAccepted length (inRoom (length (now (out .entry))) (write End.Host number (dataFrom start (now (values .entry))))) ⌝ }
+    ensures { λ r. ⌜ now (out .exit) ≡ outAfter (inRoom (length (now (out .entry))) (write End.Host number (dataFrom start (now (values .entry))))) (now (out .entry)) ⌝ }
+{
+    if 14 < values.len() {
+        return Written::Refused(Refusal::TypeLength);
+    }
+    let payload = crate::message::run_payload(start, values);
+    let n = values.len() + 1;
+    write(number, 2, &payload[..n], out)
+}
+
+// Writes a group, with the lent values.
+pub fn write_group(number: u8, group: Group, values: &[u8], out: &mut [u8]) -> Written
+    ensures { λ r. ⌜ writtenOf r ≡ onAccepted length (inRoom (length (now (out .entry))) (write End.Host number (groupValues group (now (values .entry))))) ⌝ }
+    ensures { λ r. ⌜ now (out .exit) ≡ outAfter (inRoom (length (now (out .entry))) (write End.Host number (groupValues group (now (values .entry))))) (now (out .entry)) ⌝ }
+{
+    write(number, crate::group::reply_type(group), values, out)
 }

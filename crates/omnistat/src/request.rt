@@ -2,8 +2,8 @@
 ghost use mathlib.Core.Path.{_≡_};
 ghost use lib.ListN.{length, take, drop};
 ghost use Rattle.answer.specs.Answer.{onAccepted, inRoom, outAfter, writtenOf};
-ghost use Rattle.omnistat.specs.Message.{asPoll, asRun, asBare, asRequest, setFrom, pollGroup};
-ghost use Rattle.omnistat.specs.Omnistat.{read, writeBytes};
+ghost use Rattle.omnistat.specs.Message.{asPoll, asRun, asBare, asRequest, poll, setFrom, pollGroup};
+ghost use Rattle.omnistat.specs.Omnistat.{read, write, writeBytes};
 ghost use Rattle.omnistat.specs.Answer.{requestOf, checkOf, passed, heardRequest, onMessage, countedRequest};
 use crate::frame::End;
 use crate::frame::Framed;
@@ -140,4 +140,35 @@ pub fn write(address: u8, kind: u8, payload: &[u8], out: &mut [u8]) -> Written
             crate::frame::write(address, kind, payload, out)
         }
     }
+}
+
+// Writes a poll of count registers from a start.
+pub fn write_poll(address: u8, start: u8, count: u8, out: &mut [u8]) -> Written
+    ensures { λ r. ⌜ writtenOf r ≡ onAccepted length (inRoom (length (now (out .entry))) (write End.Thermostat address (poll start count))) ⌝ }
+    ensures { λ r. ⌜ now (out .exit) ≡ outAfter (inRoom (length (now (out .entry))) (write End.Thermostat address (poll start count))) (now (out .entry)) ⌝ }
+{
+    let payload = [start, count];
+    write(address, 0, &payload, out)
+}
+
+// Writes a set of registers from a start, with the lent values.
+pub fn write_set(address: u8, start: u8, values: &[u8], out: &mut [u8]) -> Written
+    ensures { λ r. ⌜ writtenOf r ≡ onAccepted length (inRoom (length (now (out .entry))) (write End.Thermostat address (setFrom start (now (values .entry))))) ⌝ }
+    ensures { λ r. ⌜ now (out .exit) ≡ outAfter (inRoom (length (now (out .entry))) (write End.Thermostat address (setFrom start (now (values .entry))))) (now (out .entry)) ⌝ }
+{
+    if 14 < values.len() {
+        return Written::Refused(Refusal::TypeLength);
+    }
+    let payload = crate::message::run_payload(start, values);
+    let n = values.len() + 1;
+    write(address, 1, &payload[..n], out)
+}
+
+// Writes a poll of a group.
+pub fn write_group_poll(address: u8, group: Group, out: &mut [u8]) -> Written
+    ensures { λ r. ⌜ writtenOf r ≡ onAccepted length (inRoom (length (now (out .entry))) (write End.Thermostat address (pollGroup group))) ⌝ }
+    ensures { λ r. ⌜ now (out .exit) ≡ outAfter (inRoom (length (now (out .entry))) (write End.Thermostat address (pollGroup group))) (now (out .entry)) ⌝ }
+{
+    let none = [0u8; 1];
+    write(address, crate::group::poll_type(group), &none[..0], out)
 }

@@ -12,12 +12,12 @@ use Rattle.omnistat.specs.declared.frame.End.{End}
 use Rattle.omnistat.specs.declared.frame.End.the-variants.{Thermostat, Host}
 use Rattle.omnistat.specs.Register.{within}
 use Rattle.omnistat.specs.Frame.{Frame, framed, frame, directed, addressOf, addressable, firstOf, bytesOf}
-use Rattle.omnistat.specs.Message.{Request, Reply, asRequest, asReply}
+use Rattle.omnistat.specs.Message.{Request, Reply, setFrom, dataFrom, asRequest, asReply}
 use Rattle.omnistat.specs.Omnistat.{Message, asMessage, kindOf, payloadOf, Addressed, addressed, read, write, writeBytes}
 use Rattle.omnistat.specs.Answer.{onMessage, countedRequest, countedReply, heardRequest, heardReply, passed}
 use Rattle.omnistat.proofs.Laws.Outcome.{never, same-accepted, passed-not, then-accepted, on-accepted, heard-twice, still-refused}
 use Rattle.omnistat.proofs.Laws.Frame.{taken-apart, read-back}
-use Rattle.omnistat.proofs.Laws.Message.{inside, within-both}
+use Rattle.omnistat.proofs.Laws.Message.{inside, within-both, run-long}
 use Rattle.omnistat.proofs.Laws.Typed.{named, kind-fits, payload-fits, again}
 
 -- reading, by the frame
@@ -148,3 +148,13 @@ module _ (end : End) (address kind : ℕ) (payload : List ℕ) where
     write-framed a =
         let p = on-accepted passed (asMessage end kind payload) tt (sym e) in
         simp (p .1, a)
+
+-- more values than a message can carry
+module _ (address start : ℕ) (values : List ℕ) (h : 14 < length values) where
+  pub set-too-long : write Thermostat address (setFrom start values) ≡ refused 7
+  unfolding writeBytes asRequest
+  set-too-long = let k : 15 < length (start ∷ values) = omega arith in simp (run-long setFrom (start ∷ values) k)
+
+  pub data-too-long : write Host address (dataFrom start values) ≡ refused 7
+  unfolding writeBytes asReply
+  data-too-long = let k : 15 < length (start ∷ values) = omega arith in simp (run-long dataFrom (start ∷ values) k)

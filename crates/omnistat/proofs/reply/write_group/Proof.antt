@@ -1,0 +1,38 @@
+use mathlib.Core.Path.{sym, ap}
+use mathlib.Core.List.{[]}
+use Prim.Native.Nat.{ℕ}
+use denote.Ref.{now}
+use Rattle.omnistat.specs.declared.frame.End.the-variants.{Host}
+use Rattle.omnistat.specs.Message.{group}
+use Rattle.omnistat.specs.Omnistat.{write, writeBytes}
+use Rattle.omnistat.proofs.Laws.Output.{leaves-same}
+use borrow.Author.Needs.{needs}
+use Rattle.omnistat.proofs.reply.write_group.Statement.{statement}
+use Rattle.omnistat.proofs.reply.write_group.Tie as tie
+use Rattle.omnistat.proofs.reply.write_group.Reads as reads
+use Rattle.omnistat.proofs.reply.write_group.Lts as lts
+use Rattle.omnistat.proofs.group.reply_type.Reads as reply-type-reads
+use Rattle.omnistat.proofs.reply.write.Reads as write-reads
+
+-- src/reply.rt:204:19
+reply-type-requires : tie.Need-reply-type-requires
+reply-type-requires c κs = search needs
+
+-- src/reply.rt:204:5
+write-requires : tie.Need-write-requires
+write-requires c κs = search needs
+
+-- src/reply.rt:200:1
+same-length : tie.Need-same-length
+same-length c = search needs
+
+-- src/reply.rt:200:1
+returns : tie.Need-returns
+returns c =
+    let a = c .before .before .before .before .before .before .before .args in
+    leaves-same (now (a .out)) (write Host (a .number) (group (a .group) (now (a .values)))) _ _ _
+    (ap (λ (k : ℕ). writeBytes Host (a .number) k (now (a .values))) (sym (c .before .before .before .before .reply-type .ensures)))
+    (c .before .before .write .ensures)
+
+pub write-group-spec : {M : Type 1} → statement M
+write-group-spec = tie.close (tie.spec reply-type-requires write-requires same-length returns)
