@@ -1,1 +1,2 @@
 // The C interface: a thin call over each public operation. include/gateway.h declares every function here.
+mod omnistat2;

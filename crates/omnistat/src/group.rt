@@ -9,7 +9,7 @@ pub enum Group {
 }
 
 // The type of the poll of a group.
-pub(crate) fn poll_type(g: Group) -> u8
+pub fn poll_type(g: Group) -> u8
     ensures { λ r. ⌜ r ≡ pollType g ⌝ }
 {
     match g {
@@ -20,7 +20,7 @@ pub(crate) fn poll_type(g: Group) -> u8
 }
 
 // The type of the reply with a group.
-pub(crate) fn reply_type(g: Group) -> u8
+pub fn reply_type(g: Group) -> u8
     ensures { λ r. ⌜ r ≡ replyType g ⌝ }
 {
     match g {
@@ -31,7 +31,7 @@ pub(crate) fn reply_type(g: Group) -> u8
 }
 
 // How many values the reply with a group has.
-pub(crate) fn reply_length(g: Group) -> u8
+pub fn reply_length(g: Group) -> u8
     ensures { λ r. ⌜ r ≡ replyLength g ⌝ }
 {
     match g {
