@@ -1,4 +1,5 @@
 /* Reading Omnistat2 messages at both ends. */
+#define _POSIX_C_SOURCE 200809L
 #include "bench.h"
 #include "gateway.h"
 
