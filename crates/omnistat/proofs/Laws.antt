@@ -1,4 +1,5 @@
 pub mod Frame
+pub mod Group
 pub mod Heard
 pub mod Message
 pub mod Omnistat

@@ -6,9 +6,10 @@ use lib.ListN.{length}
 use lib.Dec.{eqb}
 use Rattle.answer.specs.Answer.{Outcome, refused, accepted, refuseIf}
 use Rattle.omnistat.specs.Register.{within, runAllowed}
-use Rattle.omnistat.specs.Group.{pollType, replyType, replyLength}
+use Rattle.omnistat.specs.Group.{pollType, replyType, replyLength, polledBy, repliedBy}
 use Rattle.omnistat.specs.declared.group.Group.{Group}
-use Rattle.omnistat.specs.declared.group.Group.the-variants.{First, Second, Third}
+use Rattle.omnistat.specs.declared.group.Named.{Named}
+use Rattle.omnistat.specs.declared.group.Named.the-variants.{Of, Unknown}
 
 -- what the host sends: a poll of count registers from a start, a set of registers from a start, a poll of a group. A is what stands for the
 -- values: their list in a message, their count in what a reader hands back
@@ -71,26 +72,28 @@ asRun make (start ∷ values) =
 abbrev pub asGroup : Group → List ℕ → Outcome (Reply (List ℕ))
 asGroup g values = refuseIf (not (eqb (length values) (replyLength g))) 7 (accepted (group g values))
 
--- from the host: poll, set, the three group polls; every other type is 6
+-- from the host: poll, set, the polls of the three groups; every other type is 6
+abbrev pub asGroupPoll : Named → List ℕ → Outcome (Request (List ℕ))
+asGroupPoll (Of g) payload = asBare (pollGroup g) payload
+asGroupPoll Unknown payload = refused 6
+
 unfoldable pub asRequest : ℕ → List ℕ → Outcome (Request (List ℕ))
 asRequest kind payload =
     cond (eqb kind pollKind) (asPoll payload)
     (cond (eqb kind setKind) (asRun setFrom payload)
-    (cond (eqb kind (pollType First)) (asBare (pollGroup First) payload)
-    (cond (eqb kind (pollType Second)) (asBare (pollGroup Second) payload)
-    (cond (eqb kind (pollType Third)) (asBare (pollGroup Third) payload)
-    (refused 6)))))
+    (asGroupPoll (polledBy kind) payload))
 
 -- replies: acknowledge, negative, data, the three groups; every other type is 6
+abbrev pub asGroupReply : Named → List ℕ → Outcome (Reply (List ℕ))
+asGroupReply (Of g) payload = asGroup g payload
+asGroupReply Unknown payload = refused 6
+
 unfoldable pub asReply : ℕ → List ℕ → Outcome (Reply (List ℕ))
 asReply kind payload =
     cond (eqb kind acknowledgeKind) (asBare acknowledge payload)
     (cond (eqb kind negativeKind) (asBare negative payload)
     (cond (eqb kind dataKind) (asRun dataFrom payload)
-    (cond (eqb kind (replyType First)) (asGroup First payload)
-    (cond (eqb kind (replyType Second)) (asGroup Second payload)
-    (cond (eqb kind (replyType Third)) (asGroup Third payload)
-    (refused 6))))))
+    (asGroupReply (repliedBy kind) payload)))
 
 -- the type of each message
 abbrev pub requestKind : {A : Type 0} → Request A → ℕ

@@ -1,11 +1,17 @@
 // The three groups of registers, the types of their messages and the lengths of their replies.
 ghost use mathlib.Core.Path.{_≡_};
-ghost use Rattle.omnistat.specs.Group.{pollType, replyType, replyLength};
+ghost use Rattle.omnistat.specs.Group.{pollType, replyType, replyLength, polledBy, repliedBy};
 
 pub enum Group {
     First,
     Second,
     Third,
+}
+
+// The group that the type of a message names, if it names one.
+pub enum Named {
+    Of(Group),
+    Unknown,
 }
 
 // The type of the poll of a group.
@@ -39,4 +45,36 @@ pub fn reply_length(g: Group) -> u8
         Group::Second => 6,
         Group::Third => 10,
     }
+}
+
+// The group whose poll has this type.
+pub fn polled(kind: u8) -> Named
+    ensures { λ r. ⌜ r ≡ polledBy kind ⌝ }
+{
+    if kind == poll_type(Group::First) {
+        return Named::Of(Group::First);
+    }
+    if kind == poll_type(Group::Second) {
+        return Named::Of(Group::Second);
+    }
+    if kind == poll_type(Group::Third) {
+        return Named::Of(Group::Third);
+    }
+    Named::Unknown
+}
+
+// The group whose reply has this type.
+pub fn replied(kind: u8) -> Named
+    ensures { λ r. ⌜ r ≡ repliedBy kind ⌝ }
+{
+    if kind == reply_type(Group::First) {
+        return Named::Of(Group::First);
+    }
+    if kind == reply_type(Group::Second) {
+        return Named::Of(Group::Second);
+    }
+    if kind == reply_type(Group::Third) {
+        return Named::Of(Group::Third);
+    }
+    Named::Unknown
 }

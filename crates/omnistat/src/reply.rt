@@ -9,6 +9,7 @@ ghost use Rattle.omnistat.specs.Answer.{replyOf, checkOf, passed, heardR
 use crate::frame::End;
 use crate::frame::Framed;
 use crate::group::Group;
+use crate::group::Named;
 use crate::message::Check;
 use crate::message::Run;
 use answer::Refusal;
@@ -86,16 +87,10 @@ pub(crate) fn as_reply(number: u8, kind: u8, payload: &[u8]) -> Reply
     if kind == 2 {
         return as_data(number, payload);
     }
-    if kind == crate::group::reply_type(Group::First) {
-        return as_group(number, Group::First, payload);
+    match crate::group::replied(kind) {
+        Named::Of(group) => as_group(number, group, payload),
+        Named::Unknown => Reply::Refused(Refusal::Unknown),
     }
-    if kind == crate::group::reply_type(Group::Second) {
-        return as_group(number, Group::Second, payload);
-    }
-    if kind == crate::group::reply_type(Group::Third) {
-        return as_group(number, Group::Third, payload);
-    }
-    Reply::Refused(Refusal::Unknown)
 }
 
 // Reads a message at the host. Every first byte above 80 is a reply from that number less 80.

@@ -8,6 +8,7 @@ ghost use Rattle.omnistat.specs.Answer.{requestOf, checkOf, passed, hear
 use crate::frame::End;
 use crate::frame::Framed;
 use crate::group::Group;
+use crate::group::Named;
 use crate::message::Check;
 use crate::message::Run;
 use answer::Refusal;
@@ -81,16 +82,10 @@ pub(crate) fn as_request(first: u8, kind: u8, payload: &[u8]) -> Request
     if kind == 1 {
         return as_set(first, payload);
     }
-    if kind == crate::group::poll_type(Group::First) {
-        return as_group_poll(first, Group::First, payload);
+    match crate::group::polled(kind) {
+        Named::Of(group) => as_group_poll(first, group, payload),
+        Named::Unknown => Request::Refused(Refusal::Unknown),
     }
-    if kind == crate::group::poll_type(Group::Second) {
-        return as_group_poll(first, Group::Second, payload);
-    }
-    if kind == crate::group::poll_type(Group::Third) {
-        return as_group_poll(first, Group::Third, payload);
-    }
-    Request::Refused(Refusal::Unknown)
 }
 
 // Reads a message at the thermostat.

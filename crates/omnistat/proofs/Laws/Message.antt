@@ -9,12 +9,12 @@ use lib.Dec.{eqb, leb}
 use borrow.Author.Tests.{le-leb, lt-leb, leb-true, eq-eqb, ne-eqb}
 use Rattle.answer.specs.Answer.{Outcome, refused, accepted, refuseIf, onAccepted}
 use Rattle.omnistat.specs.declared.group.Group.{Group}
-use Rattle.omnistat.specs.declared.group.Group.the-variants.{First, Second, Third}
+use Rattle.omnistat.specs.declared.group.Named.{Named}
 use Rattle.omnistat.specs.Register.{within, runAllowed}
-use Rattle.omnistat.specs.Group.{pollType, replyType, replyLength}
+use Rattle.omnistat.specs.Group.{replyLength, polledBy, repliedBy}
 use Rattle.omnistat.specs.Answer.{Span, span, heardRequest, heardReply}
 use Rattle.omnistat.specs.Omnistat.{Addressed, addressed}
-use Rattle.omnistat.specs.Message.{Request, Reply, poll, setFrom, pollGroup, acknowledge, negative, dataFrom, group, asBare, asPoll, asRun, asGroup, asRequest, asReply}
+use Rattle.omnistat.specs.Message.{Request, Reply, poll, setFrom, pollGroup, acknowledge, negative, dataFrom, group, asBare, asPoll, asRun, asGroup, asGroupPoll, asGroupReply, asRequest, asReply}
 
 module _ (lo hi n : ℕ) where
   pub too-low : n < lo → within lo hi n ≡ false
@@ -119,10 +119,9 @@ module _ (kind : ℕ) (d : List ℕ) where
   unfolding asRequest
   names-set h = ap (λ (k : ℕ). asRequest k d) h
 
-  pub names-no-request : (kind ≡ 0 → ⊥) → (kind ≡ 1 → ⊥) → ((g : Group) → kind ≡ pollType g → ⊥) → asRequest kind d ≡ refused 6
+  pub names-group-poll : (kind ≡ 0 → ⊥) → (kind ≡ 1 → ⊥) → (n : Named) → n ≡ polledBy kind → asRequest kind d ≡ asGroupPoll n d
   unfolding asRequest
-  names-no-request a b e =
-      simp (ne-eqb kind 0 a, ne-eqb kind 1 b, ne-eqb kind 2 (e First), ne-eqb kind 3 (e Second), ne-eqb kind 4 (e Third))
+  names-group-poll a b n e = simp (ne-eqb kind 0 a, ne-eqb kind 1 b) (ap (λ (x : Named). asGroupPoll x d) (sym e))
 
   pub names-acknowledge : kind ≡ 0 → asReply kind d ≡ asBare acknowledge d
   unfolding asReply
@@ -136,29 +135,9 @@ module _ (kind : ℕ) (d : List ℕ) where
   unfolding asReply
   names-data h = ap (λ (k : ℕ). asReply k d) h
 
-  pub names-no-reply : (kind ≡ 0 → ⊥) → (kind ≡ 1 → ⊥) → (kind ≡ 2 → ⊥) → ((g : Group) → kind ≡ replyType g → ⊥) → asReply kind d ≡ refused 6
+  pub names-group : (kind ≡ 0 → ⊥) → (kind ≡ 1 → ⊥) → (kind ≡ 2 → ⊥) → (n : Named) → n ≡ repliedBy kind → asReply kind d ≡ asGroupReply n d
   unfolding asReply
-  names-no-reply a b e f =
-      simp
-      (ne-eqb kind 0 a, ne-eqb kind 1 b, ne-eqb kind 2 e, ne-eqb kind 3 (f First), ne-eqb kind 4 (f Second), ne-eqb kind 5 (f Third))
-
-poll-of-group : (g : Group) (d : List ℕ) → asRequest (pollType g) d ≡ asBare (pollGroup g) d
-unfolding asRequest
-poll-of-group First d = refl
-poll-of-group Second d = refl
-poll-of-group Third d = refl
-
-pub names-group-poll : (g : Group) (kind : ℕ) (d : List ℕ) → kind ≡ pollType g → asRequest kind d ≡ asBare (pollGroup g) d
-names-group-poll g kind d h = ap (λ (k : ℕ). asRequest k d) h ∙ poll-of-group g d
-
-reply-of-group : (g : Group) (d : List ℕ) → asReply (replyType g) d ≡ asGroup g d
-unfolding asReply
-reply-of-group First d = refl
-reply-of-group Second d = refl
-reply-of-group Third d = refl
-
-pub names-group : (g : Group) (kind : ℕ) (d : List ℕ) → kind ≡ replyType g → asReply kind d ≡ asGroup g d
-names-group g kind d h = ap (λ (k : ℕ). asReply k d) h ∙ reply-of-group g d
+  names-group a b f n e = simp (ne-eqb kind 0 a, ne-eqb kind 1 b, ne-eqb kind 2 f) (ap (λ (x : Named). asGroupReply x d) (sym e))
 
 -- a group
 module _ (g : Group) (d : List ℕ) where

@@ -11,11 +11,13 @@ use borrow.Author.Tests.{eqb-true}
 use Rattle.answer.specs.Answer.{Outcome, refused, accepted, refuseIf}
 use Rattle.omnistat.specs.declared.group.Group.{Group}
 use Rattle.omnistat.specs.declared.group.Group.the-variants.{First, Second, Third}
+use Rattle.omnistat.specs.declared.group.Named.{Named}
+use Rattle.omnistat.specs.declared.group.Named.the-variants.{Of, Unknown}
 use Rattle.omnistat.specs.declared.frame.End.{End}
 use Rattle.omnistat.specs.declared.frame.End.the-variants.{Thermostat, Host}
 use Rattle.omnistat.specs.Register.{within, runAllowed}
-use Rattle.omnistat.specs.Group.{pollType, replyType, replyLength}
-use Rattle.omnistat.specs.Message.{Request, Reply, poll, setFrom, pollGroup, acknowledge, negative, dataFrom, group, asBare, asPoll, asRun, asGroup, asRequest, asReply, requestKind, replyKind, requestPayload, replyPayload}
+use Rattle.omnistat.specs.Group.{pollType, replyType, replyLength, namedBy, polledBy, repliedBy}
+use Rattle.omnistat.specs.Message.{Request, Reply, poll, setFrom, pollGroup, acknowledge, negative, dataFrom, group, asBare, asPoll, asRun, asGroup, asGroupPoll, asGroupReply, asRequest, asReply, requestKind, replyKind, requestPayload, replyPayload}
 use Rattle.omnistat.specs.Omnistat.{Message, asMessage, kindOf, payloadOf}
 use Rattle.omnistat.proofs.Laws.Outcome.{never, same-accepted, passed-not, chosen}
 use Rattle.omnistat.proofs.Laws.Message.{within-both}
@@ -58,26 +60,53 @@ made-group g m d a =
 
 -- one type of the list: it is this one, or one of the later ones
 module _ {M : Type 0} (kind : M → ℕ) (payload : M → List ℕ) (t : ℕ) (d : List ℕ) (m : M) where
-  abbrev Named : ℕ → Type 0
-  Named k = (kind m ≡ k) × (payload m ≡ d)
+  abbrev Says : ℕ → Type 0
+  Says k = (kind m ≡ k) × (payload m ≡ d)
 
-  one-of : (k : ℕ) (x y : Outcome M) → (x ≡ accepted m → Named k) → (y ≡ accepted m → Named t)
-      → cond (eqb t k) x y ≡ accepted m → Named t
+  one-of : (k : ℕ) (x y : Outcome M) → (x ≡ accepted m → Says k) → (y ≡ accepted m → Says t)
+      → cond (eqb t k) x y ≡ accepted m → Says t
   one-of k x y this later e =
       ⊎-elim
       (λ w. let n = this (w .1) in (n .0 ∙ sym (eqb-true t k (w .0)), n .1))
       (λ w. later (w .1))
       (chosen (eqb t k) x y (accepted m) e)
 
+-- a type that names a group is that group's
+one-group : (type : Group → ℕ) (t : ℕ) (g : Group) (n : Named)
+    → n ≡ namedBy type t → n ≡ Of g → type g ≡ t
+one-group type t g n e h =
+    ⊎-elim (λ w. found First (w .0) (w .1))
+    (λ v. ⊎-elim (λ w. found Second (w .0) (w .1))
+    (λ u. ⊎-elim (λ w. found Third (w .0) (w .1)) (λ w. absurd (not-unknown (w .1)))
+    (chosen (eqb t (type Third)) (Of Third) Unknown (Of g) (u .1)))
+    (chosen (eqb t (type Second)) (Of Second) _ (Of g) (v .1)))
+    (chosen (eqb t (type First)) (Of First) _ (Of g) (sym e ∙ h))
+  where
+    found : (x : Group) → eqb t (type x) ≡ true → Of x ≡ Of g → type g ≡ t
+    found x p q = let s : x ≡ g = cc in ap type (sym s) ∙ sym (eqb-true t (type x) p)
+    not-unknown : Unknown ≡ Of g → ⊥
+    not-unknown q = let z : _≡_ {A = ℕ} 0 1 = cc in omega arith
+
+named-group-poll : (t : ℕ) (d : List ℕ) (m : Request (List ℕ)) (n : Named) → n ≡ polledBy t → asGroupPoll n d ≡ accepted m
+    → (requestKind m ≡ t) × (requestPayload m ≡ d)
+named-group-poll t d m (Of g) e a =
+    let p = made-bare requestKind requestPayload (pollType g) m (pollGroup g) refl refl d a in
+    (p .0 ∙ one-group pollType t g (Of g) e refl, p .1)
+named-group-poll t d m Unknown e a = absurd (never 6 m a)
+
+named-group-reply : (t : ℕ) (d : List ℕ) (m : Reply (List ℕ)) (n : Named) → n ≡ repliedBy t → asGroupReply n d ≡ accepted m
+    → (replyKind m ≡ t) × (replyPayload m ≡ d)
+named-group-reply t d m (Of g) e a =
+    let p = made-group g m d a in
+    (p .0 ∙ one-group replyType t g (Of g) e refl, p .1)
+named-group-reply t d m Unknown e a = absurd (never 6 m a)
+
 named-request : (t : ℕ) (d : List ℕ) (m : Request (List ℕ)) → asRequest t d ≡ accepted m → (requestKind m ≡ t) × (requestPayload m ≡ d)
 unfolding asRequest
 named-request t d m =
     one-of requestKind requestPayload t d m 0 _ _ (made-poll m d)
     (one-of requestKind requestPayload t d m 1 _ _ (made-run requestKind requestPayload 1 m setFrom (λ s v. refl) (λ s v. refl) d)
-    (one-of requestKind requestPayload t d m 2 _ _ (made-bare requestKind requestPayload 2 m (pollGroup First) refl refl d)
-    (one-of requestKind requestPayload t d m 3 _ _ (made-bare requestKind requestPayload 3 m (pollGroup Second) refl refl d)
-    (one-of requestKind requestPayload t d m 4 _ _ (made-bare requestKind requestPayload 4 m (pollGroup Third) refl refl d)
-    (λ e. absurd (never 6 m e))))))
+    (named-group-poll t d m (polledBy t) refl))
 
 named-reply : (t : ℕ) (d : List ℕ) (m : Reply (List ℕ)) → asReply t d ≡ accepted m → (replyKind m ≡ t) × (replyPayload m ≡ d)
 unfolding asReply
@@ -85,10 +114,7 @@ named-reply t d m =
     one-of replyKind replyPayload t d m 0 _ _ (made-bare replyKind replyPayload 0 m acknowledge refl refl d)
     (one-of replyKind replyPayload t d m 1 _ _ (made-bare replyKind replyPayload 1 m negative refl refl d)
     (one-of replyKind replyPayload t d m 2 _ _ (made-run replyKind replyPayload 2 m dataFrom (λ s v. refl) (λ s v. refl) d)
-    (one-of replyKind replyPayload t d m 3 _ _ (made-group First m d)
-    (one-of replyKind replyPayload t d m 4 _ _ (made-group Second m d)
-    (one-of replyKind replyPayload t d m 5 _ _ (made-group Third m d)
-    (λ e. absurd (never 6 m e)))))))
+    (named-group-reply t d m (repliedBy t) refl)))
 
 -- what is accepted for a type and data bytes has that type and those data bytes
 pub named : (end : End) (t : ℕ) (d : List ℕ) (m : Message end) → asMessage end t d ≡ accepted m → (kindOf end m ≡ t) × (payloadOf end m ≡ d)
@@ -169,20 +195,20 @@ either-way : {A P : Type 0} (t : Bool) (x y z : A) → (x ≡ z → P) → (y �
 either-way true x y z f g e = f e
 either-way false x y z f g e = g e
 
+small-group-poll : (m : Request (List ℕ)) (d : List ℕ) (n : Named) → asGroupPoll n d ≡ accepted m → length d ≤ 15
+small-group-poll m d (Of g) a = small-bare m (pollGroup g) d a
+small-group-poll m d Unknown a = absurd (never 6 m a)
+
+small-group-reply : (m : Reply (List ℕ)) (d : List ℕ) (n : Named) → asGroupReply n d ≡ accepted m → length d ≤ 15
+small-group-reply m d (Of g) a = small-group g m d a
+small-group-reply m d Unknown a = absurd (never 6 m a)
+
 pub payload-fits : (end : End) (t : ℕ) (d : List ℕ) (m : Message end) → asMessage end t d ≡ accepted m → length d ≤ 15
 unfolding asRequest asReply
 payload-fits Thermostat t d m =
     either-way (eqb t 0) _ _ _ (small-poll m d)
-    (either-way (eqb t 1) _ _ _ (small-run m setFrom d)
-    (either-way (eqb t 2) _ _ _ (small-bare m (pollGroup First) d)
-    (either-way (eqb t 3) _ _ _ (small-bare m (pollGroup Second) d)
-    (either-way (eqb t 4) _ _ _ (small-bare m (pollGroup Third) d)
-    (λ e. absurd (never 6 m e))))))
+    (either-way (eqb t 1) _ _ _ (small-run m setFrom d) (small-group-poll m d (polledBy t)))
 payload-fits Host t d m =
     either-way (eqb t 0) _ _ _ (small-bare m acknowledge d)
     (either-way (eqb t 1) _ _ _ (small-bare m negative d)
-    (either-way (eqb t 2) _ _ _ (small-run m dataFrom d)
-    (either-way (eqb t 3) _ _ _ (small-group First m d)
-    (either-way (eqb t 4) _ _ _ (small-group Second m d)
-    (either-way (eqb t 5) _ _ _ (small-group Third m d)
-    (λ e. absurd (never 6 m e)))))))
+    (either-way (eqb t 2) _ _ _ (small-run m dataFrom d) (small-group-reply m d (repliedBy t))))

@@ -1,82 +1,69 @@
-use mathlib.Core.Path.{_≡_, sym, _∙_}
+use mathlib.Core.Path.{sym, ap, _∙_}
 use denote.Ref.{now}
-use Rattle.omnistat.specs.declared.group.Group.{Group}
-use Rattle.omnistat.specs.declared.group.Group.the-variants.{First, Second, Third}
-use Rattle.omnistat.specs.Group.{pollType}
-use Rattle.omnistat.proofs.Laws.Message.{names-poll, names-set, names-group-poll, names-no-request}
+use Rattle.answer.specs.Answer.{onAccepted}
+use Rattle.omnistat.specs.declared.group.Named.the-variants.{Of, Unknown}
+use Rattle.omnistat.specs.Answer.{heardRequest}
+use Rattle.omnistat.proofs.Laws.Message.{names-poll, names-set, names-group-poll}
 use borrow.Author.Needs.{needs}
 use Rattle.omnistat.proofs.request.as_request.Statement.{statement}
 use Rattle.omnistat.proofs.request.as_request.Tie as tie
 use Rattle.omnistat.proofs.request.as_request.Reads as reads
 use Rattle.omnistat.proofs.request.as_request.Lts as lts
-use Rattle.omnistat.proofs.group.poll_type.Reads as poll-type-reads
+use Rattle.omnistat.proofs.group.polled.Reads as polled-reads
 use Rattle.omnistat.proofs.request.as_group_poll.Reads as as-group-poll-reads
 use Rattle.omnistat.proofs.request.as_poll.Reads as as-poll-reads
 use Rattle.omnistat.proofs.request.as_set.Reads as as-set-reads
 
--- src/request.rt:69:9
+-- src/request.rt:80:9
 as-poll-requires : tie.Need-as-poll-requires
 as-poll-requires c κs = search needs
 
--- src/request.rt:69:9
+-- src/request.rt:80:9
 returns : tie.Need-returns
 returns c = let a = c .before .before .before .args in cc (names-poll (a .kind) (now (a .payload)) (c .before .if1 .taken))
 
--- src/request.rt:72:9
+-- src/request.rt:83:9
 as-set-requires : tie.Need-as-set-requires
 as-set-requires c κs = search needs
 
--- src/request.rt:72:9
+-- src/request.rt:83:9
 returns-2 : tie.Need-returns-2
 returns-2 c = let a = c .before .before .before .before .args in cc (names-set (a .kind) (now (a .payload)) (c .before .if2 .taken))
 
--- src/request.rt:74:16
-poll-type-requires : tie.Need-poll-type-requires
-poll-type-requires c κs = search needs
+-- src/request.rt:85:11
+polled-requires : tie.Need-polled-requires
+polled-requires c κs = search needs
 
--- src/request.rt:75:9
+-- src/request.rt:86:19
+enum-known-group : tie.Need-enum-known-group
+enum-known-group c = search needs
+
+-- src/request.rt:86:29
 as-group-poll-requires : tie.Need-as-group-poll-requires
 as-group-poll-requires c κs = search needs
 
--- src/request.rt:75:9
+-- src/request.rt:87:44
+enum-told : tie.Need-enum-told
+enum-told c = search needs
+
+-- src/request.rt:76:1
 returns-3 : tie.Need-returns-3
-returns-3 c = let a = c .before .before .before .before .before .before .args in cc (names-group-poll First (a .kind) (now (a .payload)) (c .before .if3 .taken ∙ c .before .before .poll-type .ensures))
+returns-3 c =
+    let a = c .before .before .before .before .before .before .before .before .args in
+    c .as-group-poll .ensures
+    ∙ ap (onAccepted (heardRequest (a .first)))
+        (sym
+        (names-group-poll (a .kind) (now (a .payload)) (c .before .before .before .before .before .before .if1 .left) (c .before .before .before .before .before .if2 .left) (Of (c .before .before .group .given .0 .0))
+        (sym (c .before .before .group .given .1) ∙ c .before .before .before .before .polled .ensures)))
 
--- src/request.rt:77:16
-poll-type-requires-2 : tie.Need-poll-type-requires-2
-poll-type-requires-2 c κs = search needs
-
--- src/request.rt:78:9
-as-group-poll-requires-2 : tie.Need-as-group-poll-requires-2
-as-group-poll-requires-2 c κs = search needs
-
--- src/request.rt:78:9
+-- src/request.rt:76:1
 returns-4 : tie.Need-returns-4
-returns-4 c = let a = c .before .before .before .before .before .before .before .before .args in cc (names-group-poll Second (a .kind) (now (a .payload)) (c .before .if4 .taken ∙ c .before .before .poll-type2 .ensures))
-
--- src/request.rt:80:16
-poll-type-requires-3 : tie.Need-poll-type-requires-3
-poll-type-requires-3 c κs = search needs
-
--- src/request.rt:81:9
-as-group-poll-requires-3 : tie.Need-as-group-poll-requires-3
-as-group-poll-requires-3 c κs = search needs
-
--- src/request.rt:81:9
-returns-5 : tie.Need-returns-5
-returns-5 c = let a = c .before .before .before .before .before .before .before .before .before .before .args in cc (names-group-poll Third (a .kind) (now (a .payload)) (c .before .if5 .taken ∙ c .before .before .poll-type3 .ensures))
-
--- the type is no group poll's
-other : (c : tie.Else5) (g : Group) → c .before .before .before .before .before .before .before .before .before .args .kind ≡ pollType g → ⊥
-other c First e = c .before .before .before .before .if3 .left (e ∙ sym (c .before .before .before .before .before .poll-type .ensures))
-other c Second e = c .before .before .if4 .left (e ∙ sym (c .before .before .before .poll-type2 .ensures))
-other c Third e = c .if5 .left (e ∙ sym (c .before .poll-type3 .ensures))
-
--- src/request.rt:65:1
-returns-6 : tie.Need-returns-6
-returns-6 c =
-    let a = c .before .before .before .before .before .before .before .before .before .args in
-    simp (names-no-request (a .kind) (now (a .payload)) (c .before .before .before .before .before .before .before .if1 .left) (c .before .before .before .before .before .before .if2 .left) (other c))
+returns-4 c =
+    let a = c .before .before .before .before .before .before .args in
+    ap (onAccepted (heardRequest (a .first)))
+    (sym
+    (names-group-poll (a .kind) (now (a .payload)) (c .before .before .before .before .if1 .left) (c .before .before .before .if2 .left) Unknown
+    (sym (c .enum-told .given .1) ∙ c .before .before .polled .ensures)))
 
 pub as-request-spec : {M : Type 1} → statement M
 as-request-spec =
@@ -86,13 +73,9 @@ as-request-spec =
     returns
     as-set-requires
     returns-2
-    poll-type-requires
+    polled-requires
+    enum-known-group
     as-group-poll-requires
+    enum-told
     returns-3
-    poll-type-requires-2
-    as-group-poll-requires-2
-    returns-4
-    poll-type-requires-3
-    as-group-poll-requires-3
-    returns-5
-    returns-6)
+    returns-4)
