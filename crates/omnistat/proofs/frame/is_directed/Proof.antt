@@ -1,3 +1,6 @@
+use mathlib.Core.Path.{sym, ap, _∙_}
+use Rattle.omnistat.specs.declared.frame.End.{End}
+use Rattle.omnistat.specs.Frame.{directed}
 use Prim.Native.Nat.{_≤_}
 use native.Mathlib.Omega.{arith}
 use Rattle.omnistat.proofs.Laws.Frame.{at-host}
@@ -22,13 +25,16 @@ enum-told-2 c = search needs
 
 -- src/frame.rt:34:1
 returns : tie.Need-returns
-returns c = cc
+returns c =
+    c .is-to-thermostat .ensures
+    ∙ ap (λ (end : End). directed end (c .before .before .before .args .first)) (sym (c .before .enum-told .given .1))
 
 -- src/frame.rt:34:1
 returns-2 : tie.Need-returns-2
 returns-2 c =
     let h : c .before .before .args .first ≤ 255 = omega arith in
-    cc (at-host (c .before .before .args .first) h)
+    at-host (c .before .before .args .first) h
+    ∙ ap (λ (end : End). directed end (c .before .before .args .first)) (sym (c .enum-told2 .given .1))
 
 pub is-directed-spec : {M : Type 1} → statement M
 is-directed-spec =

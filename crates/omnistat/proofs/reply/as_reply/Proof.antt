@@ -21,7 +21,9 @@ as-acknowledge-requires c κs = search needs
 
 -- src/reply.rt:82:9
 returns : tie.Need-returns
-returns c = let a = c .before .before .before .args in cc (names-acknowledge (a .kind) (now (a .payload)) (c .before .if1 .taken))
+returns c =
+    let a = c .before .before .before .args in
+    c .as-acknowledge .ensures ∙ ap (onAccepted (heardReply (a .number))) (sym (names-acknowledge (a .kind) (now (a .payload)) (c .before .if1 .taken)))
 
 -- src/reply.rt:85:9
 as-negative-requires : tie.Need-as-negative-requires
@@ -29,7 +31,9 @@ as-negative-requires c κs = search needs
 
 -- src/reply.rt:85:9
 returns-2 : tie.Need-returns-2
-returns-2 c = let a = c .before .before .before .before .args in cc (names-negative (a .kind) (now (a .payload)) (c .before .if2 .taken))
+returns-2 c =
+    let a = c .before .before .before .before .args in
+    c .as-negative .ensures ∙ ap (onAccepted (heardReply (a .number))) (sym (names-negative (a .kind) (now (a .payload)) (c .before .if2 .taken)))
 
 -- src/reply.rt:88:9
 as-data-requires : tie.Need-as-data-requires
@@ -37,7 +41,9 @@ as-data-requires c κs = search needs
 
 -- src/reply.rt:88:9
 returns-3 : tie.Need-returns-3
-returns-3 c = let a = c .before .before .before .before .before .args in cc (names-data (a .kind) (now (a .payload)) (c .before .if3 .taken))
+returns-3 c =
+    let a = c .before .before .before .before .before .args in
+    c .as-data .ensures ∙ ap (onAccepted (heardReply (a .number))) (sym (names-data (a .kind) (now (a .payload)) (c .before .if3 .taken)))
 
 -- src/reply.rt:90:11
 replied-requires : tie.Need-replied-requires

@@ -20,7 +20,9 @@ as-poll-requires c κs = search needs
 
 -- src/request.rt:80:9
 returns : tie.Need-returns
-returns c = let a = c .before .before .before .args in cc (names-poll (a .kind) (now (a .payload)) (c .before .if1 .taken))
+returns c =
+    let a = c .before .before .before .args in
+    c .as-poll .ensures ∙ ap (onAccepted (heardRequest (a .first))) (sym (names-poll (a .kind) (now (a .payload)) (c .before .if1 .taken)))
 
 -- src/request.rt:83:9
 as-set-requires : tie.Need-as-set-requires
@@ -28,7 +30,9 @@ as-set-requires c κs = search needs
 
 -- src/request.rt:83:9
 returns-2 : tie.Need-returns-2
-returns-2 c = let a = c .before .before .before .before .args in cc (names-set (a .kind) (now (a .payload)) (c .before .if2 .taken))
+returns-2 c =
+    let a = c .before .before .before .before .args in
+    c .as-set .ensures ∙ ap (onAccepted (heardRequest (a .first))) (sym (names-set (a .kind) (now (a .payload)) (c .before .if2 .taken)))
 
 -- src/request.rt:85:11
 polled-requires : tie.Need-polled-requires
