@@ -16,9 +16,22 @@ fn pack_request(r: Request) -> u64
 {
     match r {
         Request::Refused(e) => answer::pack_refusal(e),
-        Request::Poll { first, start, count } => answer::pack_4_bytes(0, first, start, count),
-        Request::Set { first, start, count } => answer::pack_4_bytes(1, first, start, count),
-        Request::PollGroup { first, group } => answer::pack_4_bytes(omnistat::group::poll_type(group), first, 0, 0),
+        Request::Poll {
+            first,
+            start,
+            count,
+        } => answer::pack_4_bytes(0, first, start, count),
+        Request::Set {
+            first,
+            start,
+            count,
+        } => answer::pack_4_bytes(1, first, start, count),
+        Request::PollGroup { first, group } => answer::pack_4_bytes(
+            omnistat::group::poll_type(group),
+            first,
+            0,
+            0,
+        ),
     }
 }
 
@@ -30,8 +43,16 @@ fn pack_reply(r: Reply) -> u64
         Reply::Refused(e) => answer::pack_refusal(e),
         Reply::Acknowledge { number } => answer::pack_4_bytes(0, number, 0, 0),
         Reply::Negative { number } => answer::pack_4_bytes(1, number, 0, 0),
-        Reply::Data { number, start, count } => answer::pack_4_bytes(2, number, start, count),
-        Reply::Group { number, group, count } => answer::pack_4_bytes(omnistat::group::reply_type(group), number, 0, count),
+        Reply::Data {
+            number,
+            start,
+            count,
+        } => answer::pack_4_bytes(2, number, start, count),
+        Reply::Group {
+            number,
+            group,
+            count,
+        } => answer::pack_4_bytes(omnistat::group::reply_type(group), number, 0, count),
     }
 }
 
@@ -53,7 +74,12 @@ pub extern "C" fn omnistat_read_at_host(bytes: &[u8]) -> u64
 
 // Writes a message to a thermostat.
 #[no_mangle]
-pub extern "C" fn omnistat_write_to_thermostat(address: u8, kind: u8, payload: &[u8], out: &mut [u8]) -> u64
+pub extern "C" fn omnistat_write_to_thermostat(
+    address: u8,
+    kind: u8,
+    payload: &[u8],
+    out: &mut [u8],
+) -> u64
     ensures { λ n. ⌜ n ≡ packed (onAccepted (λ count. word count ∷ []) (onAccepted length (inRoom (length (now (out .entry))) (writeBytes End.Thermostat address kind (now (payload .entry)))))) ⌝ }
     ensures { λ n. ⌜ now (out .exit) ≡ outAfter (inRoom (length (now (out .entry))) (writeBytes End.Thermostat address kind (now (payload .entry)))) (now (out .entry)) ⌝ }
 {
@@ -62,7 +88,12 @@ pub extern "C" fn omnistat_write_to_thermostat(address: u8, kind: u8, payload: &
 
 // Writes a reply to the host.
 #[no_mangle]
-pub extern "C" fn omnistat_write_to_host(number: u8, kind: u8, payload: &[u8], out: &mut [u8]) -> u64
+pub extern "C" fn omnistat_write_to_host(
+    number: u8,
+    kind: u8,
+    payload: &[u8],
+    out: &mut [u8],
+) -> u64
     ensures { λ n. ⌜ n ≡ packed (onAccepted (λ count. word count ∷ []) (onAccepted length (inRoom (length (now (out .entry))) (writeBytes End.Host number kind (now (payload .entry)))))) ⌝ }
     ensures { λ n. ⌜ now (out .exit) ≡ outAfter (inRoom (length (now (out .entry))) (writeBytes End.Host number kind (now (payload .entry)))) (now (out .entry)) ⌝ }
 {

@@ -139,10 +139,12 @@ pub(crate) fn write(first: u8, kind: u8, payload: &[u8], out: &mut [u8]) -> Writ
     if out.len() <= last {
         return Written::Refused(Refusal::Room);
     }
+    let n = payload.len() as u8;
     out[0] = first;
-    out[1] = (payload.len() as u8) * 16 + kind;
+    out[1] = n * 16 + kind;
     copy(out, 2, payload);
     let s = sum(&out[..last]);
     out[last] = s;
-    Written::Count((last + 1) as u32)
+    let written = last + 1;
+    Written::Count(written as u32)
 }

@@ -37,7 +37,7 @@ pub fn reply_type(g: Group) -> u8
 }
 
 // How many values the reply with a group has.
-pub fn reply_length(g: Group) -> u8
+pub(crate) fn reply_length(g: Group) -> u8
     ensures { λ r. ⌜ r ≡ replyLength g ⌝ }
 {
     match g {
@@ -48,7 +48,7 @@ pub fn reply_length(g: Group) -> u8
 }
 
 // The group whose poll has this type.
-pub fn polled(kind: u8) -> Named
+pub(crate) fn polled(kind: u8) -> Named
     ensures { λ r. ⌜ r ≡ polledBy kind ⌝ }
 {
     if kind == poll_type(Group::First) {
@@ -64,7 +64,7 @@ pub fn polled(kind: u8) -> Named
 }
 
 // The group whose reply has this type.
-pub fn replied(kind: u8) -> Named
+pub(crate) fn replied(kind: u8) -> Named
     ensures { λ r. ⌜ r ≡ repliedBy kind ⌝ }
 {
     if kind == reply_type(Group::First) {

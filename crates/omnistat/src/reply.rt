@@ -129,8 +129,16 @@ pub(crate) fn check(kind: u8, payload: &[u8]) -> Check
         Reply::Refused(r) => Check::Refused(r),
         Reply::Acknowledge { number: _ } => Check::Passed,
         Reply::Negative { number: _ } => Check::Passed,
-        Reply::Data { number: _, start: _, count: _ } => Check::Passed,
-        Reply::Group { number: _, group: _, count: _ } => Check::Passed,
+        Reply::Data {
+            number: _,
+            start: _,
+            count: _,
+        } => Check::Passed,
+        Reply::Group {
+            number: _,
+            group: _,
+            count: _,
+        } => Check::Passed,
     }
 }
 

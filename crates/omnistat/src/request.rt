@@ -115,8 +115,16 @@ pub(crate) fn check(kind: u8, payload: &[u8]) -> Check
 {
     match as_request(0, kind, payload) {
         Request::Refused(r) => Check::Refused(r),
-        Request::Poll { first: _, start: _, count: _ } => Check::Passed,
-        Request::Set { first: _, start: _, count: _ } => Check::Passed,
+        Request::Poll {
+            first: _,
+            start: _,
+            count: _,
+        } => Check::Passed,
+        Request::Set {
+            first: _,
+            start: _,
+            count: _,
+        } => Check::Passed,
         Request::PollGroup { first: _, group: _ } => Check::Passed,
     }
 }

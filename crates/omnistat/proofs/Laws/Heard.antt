@@ -24,8 +24,8 @@ unfolding writeBytes
 bytes-read end address m s e =
     let bytes = bytesOf (framed (firstOf end address) (kindOf end m) (payloadOf end m)) in
     let p =
-        then-accepted (asMessage end (kindOf end m) (payloadOf end m))
-        (λ n. refuseIf (not (addressable end address)) 8 (accepted bytes)) s (write-after-read end address m s e) in
+    then-accepted (asMessage end (kindOf end m) (payloadOf end m))
+    (λ n. refuseIf (not (addressable end address)) 8 (accepted bytes)) s (write-after-read end address m s e) in
     sym (same-accepted (passed-not 8 (accepted bytes) s (addressable end address) (p .2) .1))
 
 -- the values of a message are a part of the bytes that it was read from

@@ -132,9 +132,10 @@ module _ (end : End) (address kind : ℕ) (payload : List ℕ) where
   module _ (e : accepted tt ≡ onAccepted passed (asMessage end kind payload)) where
     pub frame-fits : (kind < 16) × (length payload ≤ 15)
     frame-fits =
-        let p = on-accepted passed (asMessage end kind payload) tt (sym e) in
-        (subst (λ (k : ℕ). k < 16) (named end kind payload (p .0) (p .1) .0) (kind-fits end (p .0)),
-        payload-fits end kind payload (p .0) (p .1))
+        let p = on-accepted passed (asMessage end kind payload) tt (sym e) in (
+          subst (λ (k : ℕ). k < 16) (named end kind payload (p .0) (p .1) .0) (kind-fits end (p .0)),
+          payload-fits end kind payload (p .0) (p .1),
+        )
 
     pub write-misaddressed : addressable end address ≡ false → writeBytes end address kind payload ≡ refused 8
     unfolding writeBytes

@@ -44,9 +44,10 @@ module _ (old : List ℕ) where
   Leaves o answer after = (answer ≡ onAccepted length (inRoom (length old) o)) × (after ≡ outAfter (inRoom (length old) o) old)
 
   pub leaves-refused : (o : Outcome (List ℕ)) (n : ℕ) → o ≡ refused n → Leaves o (refused n) old
-  leaves-refused o n e =
-      (ap (λ (p : Outcome (List ℕ)). onAccepted length (inRoom (length old) p)) (sym e),
-      ap (λ (p : Outcome (List ℕ)). outAfter (inRoom (length old) p) old) (sym e))
+  leaves-refused o n e = (
+    ap (λ (p : Outcome (List ℕ)). onAccepted length (inRoom (length old) p)) (sym e),
+    ap (λ (p : Outcome (List ℕ)). outAfter (inRoom (length old) p) old) (sym e),
+  )
 
   pub leaves-same : (o p : Outcome (List ℕ)) (answer : Outcome ℕ) (after : List ℕ) → o ≡ p → Leaves p answer after → Leaves o answer after
   leaves-same o p answer after e h = subst (λ (q : Outcome (List ℕ)). Leaves q answer after) (sym e) h

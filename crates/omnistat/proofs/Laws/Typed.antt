@@ -84,6 +84,7 @@ one-group type t g n e h =
   where
     found : (x : Group) → eqb t (type x) ≡ true → Of x ≡ Of g → type g ≡ t
     found x p q = let s : x ≡ g = cc in ap type (sym s) ∙ sym (eqb-true t (type x) p)
+
     not-unknown : Unknown ≡ Of g → ⊥
     not-unknown q = let z : _≡_ {A = ℕ} 0 1 = cc in omega arith
 
@@ -188,7 +189,7 @@ reply-length-fits Third = omega arith
 small-group : (g : Group) (m : Reply (List ℕ)) (d : List ℕ) → asGroup g d ≡ accepted m → length d ≤ 15
 small-group g m d a =
     let e : length d ≡ replyLength g
-        = eqb-true (length d) (replyLength g) (passed-not 7 (accepted (group g d)) m (eqb (length d) (replyLength g)) a .0) in
+    = eqb-true (length d) (replyLength g) (passed-not 7 (accepted (group g d)) m (eqb (length d) (replyLength g)) a .0) in
     omega (arith, reply-length-fits g)
 
 either-way : {A P : Type 0} (t : Bool) (x y z : A) → (x ≡ z → P) → (y ≡ z → P) → cond t x y ≡ z → P

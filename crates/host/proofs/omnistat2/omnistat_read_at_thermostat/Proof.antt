@@ -5,20 +5,13 @@ use Rattle.omnistat.specs.Answer.{requestFields}
 use borrow.Author.Needs.{needs}
 use Rattle.host.proofs.omnistat2.omnistat_read_at_thermostat.Statement.{statement}
 use Rattle.host.proofs.omnistat2.omnistat_read_at_thermostat.Tie as tie
-use Rattle.host.proofs.omnistat2.omnistat_read_at_thermostat.Reads as reads
-use Rattle.host.proofs.omnistat2.omnistat_read_at_thermostat.Lts as lts
-use Rattle.host.proofs.omnistat2.pack_request.Reads as pack-request-reads
-use Rattle.omnistat.proofs.request.read.Reads as read-reads
 
--- src/omnistat2.rt:43:18
 read-requires : tie.Need-read-requires
 read-requires c κs = search needs
 
--- src/omnistat2.rt:43:5
 pack-request-requires : tie.Need-pack-request-requires
 pack-request-requires c κs = search needs
 
--- src/omnistat2.rt:39:1
 returns : tie.Need-returns
 returns c =
     c .pack-request .ensures

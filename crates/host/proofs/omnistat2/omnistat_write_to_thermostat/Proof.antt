@@ -6,29 +6,22 @@ use Rattle.answer.specs.Packed.{packed, word}
 use borrow.Author.Needs.{needs}
 use Rattle.host.proofs.omnistat2.omnistat_write_to_thermostat.Statement.{statement}
 use Rattle.host.proofs.omnistat2.omnistat_write_to_thermostat.Tie as tie
-use Rattle.host.proofs.omnistat2.omnistat_write_to_thermostat.Reads as reads
-use Rattle.host.proofs.omnistat2.omnistat_write_to_thermostat.Lts as lts
-use Rattle.answer.proofs.pack_written.Reads as pack-written-reads
-use Rattle.omnistat.proofs.request.write.Reads as write-reads
 
--- src/omnistat2.rt:60:26
 write-requires : tie.Need-write-requires
 write-requires c κs = search needs
 
--- src/omnistat2.rt:60:5
 pack-written-requires : tie.Need-pack-written-requires
 pack-written-requires c κs = search needs
 
--- src/omnistat2.rt:55:1
 same-length : tie.Need-same-length
 same-length c = search needs
 
--- src/omnistat2.rt:55:1
 returns : tie.Need-returns
-returns c =
-    (c .pack-written .ensures .0
-    ∙ ap (λ (o : Outcome ℕ). packed (onAccepted (λ count. word count ∷ []) o)) (c .before .before .before .write .ensures .0),
-    c .before .before .before .write .ensures .1)
+returns c = (
+  c .pack-written .ensures .0
+      ∙ ap (λ (o : Outcome ℕ). packed (onAccepted (λ count. word count ∷ []) o)) (c .before .before .before .write .ensures .0),
+  c .before .before .before .write .ensures .1,
+)
 
 pub omnistat-write-to-thermostat-spec : {M : Type 1} → statement M
 omnistat-write-to-thermostat-spec =

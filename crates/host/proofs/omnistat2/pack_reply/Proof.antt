@@ -8,76 +8,55 @@ use Rattle.omnistat.specs.Answer.{replyOf, replyFields}
 use borrow.Author.Needs.{needs}
 use Rattle.host.proofs.omnistat2.pack_reply.Statement.{statement}
 use Rattle.host.proofs.omnistat2.pack_reply.Tie as tie
-use Rattle.host.proofs.omnistat2.pack_reply.Reads as reads
-use Rattle.host.proofs.omnistat2.pack_reply.Lts as lts
-use Rattle.answer.proofs.pack_4_bytes.Reads as pack-4-bytes-reads
-use Rattle.answer.proofs.pack_refusal.Reads as pack-refusal-reads
-use Rattle.omnistat.proofs.group.reply_type.Reads as reply-type-reads
 
 abbrev packedOf : Reply → ℕ
 packedOf r = packed (onAccepted replyFields (replyOf r))
 
--- src/omnistat2.rt:30:24
 enum-known-r : tie.Need-enum-known-r
 enum-known-r c = search needs
 
--- src/omnistat2.rt:30:30
 pack-refusal-requires : tie.Need-pack-refusal-requires
 pack-refusal-requires c κs = search needs
 
--- src/omnistat2.rt:31:30
 enum-known-r-2 : tie.Need-enum-known-r-2
 enum-known-r-2 c = search needs
 
--- src/omnistat2.rt:31:42
 pack-4-bytes-requires : tie.Need-pack-4-bytes-requires
 pack-4-bytes-requires c κs = search needs
 
--- src/omnistat2.rt:32:27
 enum-known-r-3 : tie.Need-enum-known-r-3
 enum-known-r-3 c = search needs
 
--- src/omnistat2.rt:32:39
 pack-4-bytes-requires-2 : tie.Need-pack-4-bytes-requires-2
 pack-4-bytes-requires-2 c κs = search needs
 
--- src/omnistat2.rt:33:23
 enum-known-r-4 : tie.Need-enum-known-r-4
 enum-known-r-4 c = search needs
 
--- src/omnistat2.rt:33:49
 pack-4-bytes-requires-3 : tie.Need-pack-4-bytes-requires-3
 pack-4-bytes-requires-3 c κs = search needs
 
--- src/omnistat2.rt:34:24
 enum-known-r-5 : tie.Need-enum-known-r-5
 enum-known-r-5 c = search needs
 
--- src/omnistat2.rt:34:71
 reply-type-requires : tie.Need-reply-type-requires
 reply-type-requires c κs = search needs
 
--- src/omnistat2.rt:34:50
 pack-4-bytes-requires-4 : tie.Need-pack-4-bytes-requires-4
 pack-4-bytes-requires-4 c κs = search needs
 
--- src/omnistat2.rt:26:1
 returns : tie.Need-returns
 returns c = search needs
 
--- src/omnistat2.rt:26:1
 returns-2 : tie.Need-returns-2
 returns-2 c = c .pack-4-bytes .ensures ∙ ap packedOf (sym (c .before .before .r2 .given .1))
 
--- src/omnistat2.rt:26:1
 returns-3 : tie.Need-returns-3
 returns-3 c = c .pack-4-bytes2 .ensures ∙ ap packedOf (sym (c .before .before .r3 .given .1))
 
--- src/omnistat2.rt:26:1
 returns-4 : tie.Need-returns-4
 returns-4 c = c .pack-4-bytes3 .ensures ∙ ap packedOf (sym (c .before .before .r4 .given .1))
 
--- src/omnistat2.rt:26:1
 returns-5 : tie.Need-returns-5
 returns-5 c =
     let w = c .before .before .before .r5 .given .0 in

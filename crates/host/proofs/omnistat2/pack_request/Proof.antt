@@ -8,64 +8,46 @@ use Rattle.omnistat.specs.Answer.{requestOf, requestFields}
 use borrow.Author.Needs.{needs}
 use Rattle.host.proofs.omnistat2.pack_request.Statement.{statement}
 use Rattle.host.proofs.omnistat2.pack_request.Tie as tie
-use Rattle.host.proofs.omnistat2.pack_request.Reads as reads
-use Rattle.host.proofs.omnistat2.pack_request.Lts as lts
-use Rattle.answer.proofs.pack_4_bytes.Reads as pack-4-bytes-reads
-use Rattle.answer.proofs.pack_refusal.Reads as pack-refusal-reads
-use Rattle.omnistat.proofs.group.poll_type.Reads as poll-type-reads
 
 abbrev packedOf : Request → ℕ
 packedOf r = packed (onAccepted requestFields (requestOf r))
 
--- src/omnistat2.rt:18:26
 enum-known-r : tie.Need-enum-known-r
 enum-known-r c = search needs
 
--- src/omnistat2.rt:18:32
 pack-refusal-requires : tie.Need-pack-refusal-requires
 pack-refusal-requires c κs = search needs
 
--- src/omnistat2.rt:19:25
 enum-known-r-2 : tie.Need-enum-known-r-2
 enum-known-r-2 c = search needs
 
--- src/omnistat2.rt:19:50
 pack-4-bytes-requires : tie.Need-pack-4-bytes-requires
 pack-4-bytes-requires c κs = search needs
 
--- src/omnistat2.rt:20:24
 enum-known-r-3 : tie.Need-enum-known-r-3
 enum-known-r-3 c = search needs
 
--- src/omnistat2.rt:20:49
 pack-4-bytes-requires-2 : tie.Need-pack-4-bytes-requires-2
 pack-4-bytes-requires-2 c κs = search needs
 
--- src/omnistat2.rt:21:30
 enum-known-r-4 : tie.Need-enum-known-r-4
 enum-known-r-4 c = search needs
 
--- src/omnistat2.rt:21:69
 poll-type-requires : tie.Need-poll-type-requires
 poll-type-requires c κs = search needs
 
--- src/omnistat2.rt:21:48
 pack-4-bytes-requires-3 : tie.Need-pack-4-bytes-requires-3
 pack-4-bytes-requires-3 c κs = search needs
 
--- src/omnistat2.rt:14:1
 returns : tie.Need-returns
 returns c = search needs
 
--- src/omnistat2.rt:14:1
 returns-2 : tie.Need-returns-2
 returns-2 c = c .pack-4-bytes .ensures ∙ ap packedOf (sym (c .before .before .r2 .given .1))
 
--- src/omnistat2.rt:14:1
 returns-3 : tie.Need-returns-3
 returns-3 c = c .pack-4-bytes2 .ensures ∙ ap packedOf (sym (c .before .before .r3 .given .1))
 
--- src/omnistat2.rt:14:1
 returns-4 : tie.Need-returns-4
 returns-4 c =
     let w = c .before .before .before .r4 .given .0 in

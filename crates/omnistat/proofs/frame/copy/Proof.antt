@@ -9,8 +9,6 @@ use lib.ListN.{length, getD, set, length-set}
 use lib.Seq.{paste, paste-zero, paste-suc, length-paste}
 use Rattle.omnistat.proofs.frame.copy.Statement.{statement}
 use Rattle.omnistat.proofs.frame.copy.Tie as tie
-use Rattle.omnistat.proofs.frame.copy.Reads as reads
-use Rattle.omnistat.proofs.frame.copy.Lts as lts
 
 abbrev Inv-loop : tie.InvT-loop
 Inv-loop out₀ at from i₀ out i = (i ≤ length from) × (at + length from ≤ length out₀) × (length out ≡ length out₀) × (out ≡ paste out₀ at from i)
@@ -18,45 +16,39 @@ Inv-loop out₀ at from i₀ out i = (i ≤ length from) × (at + length from �
 abbrev μ-loop : tie.MeasureT-loop
 μ-loop out₀ at from i₀ out i = length from - i
 
--- src/frame.rt:125:5
 loop-holds : tie.Need-loop-holds Inv-loop μ-loop
 loop-holds c = (search needs, c .pre, refl, paste-zero (now (c .args .out)) (c .args .at) (now (c .args .from)))
 
--- src/frame.rt:126:23
 shared-slice-read-out : tie.Need-shared-slice-read-out Inv-loop μ-loop
 shared-slice-read-out c = omega arith
 
--- src/frame.rt:126:13
 add-out : tie.Need-add-out Inv-loop μ-loop
 add-out c = omega arith
 
--- src/frame.rt:126:9
 slice-write-out : tie.Need-slice-write-out Inv-loop μ-loop
 slice-write-out c = omega arith
 
--- src/frame.rt:127:9
 add-i : tie.Need-add-i Inv-loop μ-loop
 add-i c = omega arith
 
--- src/frame.rt:125:5
 loop-less : tie.Need-loop-less Inv-loop μ-loop
 loop-less c = omega arith
 
--- src/frame.rt:125:5
 loop-again : tie.Need-loop-again Inv-loop μ-loop
 loop-again c =
     let a = c .before .before .before .args in
-    let l = c .before .before .loop in
-    (omega arith, omega arith, simp length-set (omega arith),
-    ap (λ (d : List ℕ). set d (a .at + l .i) (getD (now (a .from)) (l .i) 0)) (l .inv .3)
-    ∙ paste-suc (now (a .out)) (a .at) (now (a .from)) (l .i) 0 (omega arith) (omega arith)
-    ∙ ap (paste (now (a .out)) (a .at) (now (a .from))) (sym (add-one (l .i))))
+    let l = c .before .before .loop in (
+      omega arith,
+      omega arith,
+      simp length-set (omega arith),
+      ap (λ (d : List ℕ). set d (a .at + l .i) (getD (now (a .from)) (l .i) 0)) (l .inv .3)
+          ∙ paste-suc (now (a .out)) (a .at) (now (a .from)) (l .i) 0 (omega arith) (omega arith)
+          ∙ ap (paste (now (a .out)) (a .at) (now (a .from))) (sym (add-one (l .i))),
+    )
 
--- src/frame.rt:120:1
 same-length : tie.Need-same-length Inv-loop μ-loop
 same-length c = c .before .loop .inv .2
 
--- src/frame.rt:120:1
 returns : tie.Need-returns Inv-loop μ-loop
 returns c =
     let a = c .before .before .args in

@@ -7,29 +7,21 @@ use Rattle.omnistat.proofs.Laws.Frame.{at-host}
 use borrow.Author.Needs.{needs}
 use Rattle.omnistat.proofs.frame.is_directed.Statement.{statement}
 use Rattle.omnistat.proofs.frame.is_directed.Tie as tie
-use Rattle.omnistat.proofs.frame.is_directed.Reads as reads
-use Rattle.omnistat.proofs.frame.is_directed.Lts as lts
-use Rattle.omnistat.proofs.frame.is_to_thermostat.Reads as is-to-thermostat-reads
 
--- src/frame.rt:38:28
 enum-told : tie.Need-enum-told
 enum-told c = search needs
 
--- src/frame.rt:38:28
 is-to-thermostat-requires : tie.Need-is-to-thermostat-requires
 is-to-thermostat-requires c κs = search needs
 
--- src/frame.rt:39:22
 enum-told-2 : tie.Need-enum-told-2
 enum-told-2 c = search needs
 
--- src/frame.rt:34:1
 returns : tie.Need-returns
 returns c =
     c .is-to-thermostat .ensures
     ∙ ap (λ (end : End). directed end (c .before .before .before .args .first)) (sym (c .before .enum-told .given .1))
 
--- src/frame.rt:34:1
 returns-2 : tie.Need-returns-2
 returns-2 c =
     let h : c .before .before .args .first ≤ 255 = omega arith in

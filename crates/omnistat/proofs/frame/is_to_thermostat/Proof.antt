@@ -1,14 +1,10 @@
 use borrow.Author.Tests.{lt-ltb, le-ltb}
 use Rattle.omnistat.proofs.frame.is_to_thermostat.Statement.{statement}
 use Rattle.omnistat.proofs.frame.is_to_thermostat.Tie as tie
-use Rattle.omnistat.proofs.frame.is_to_thermostat.Reads as reads
-use Rattle.omnistat.proofs.frame.is_to_thermostat.Lts as lts
 
--- src/frame.rt:28:9
 returns : tie.Need-returns
 returns c = simp (lt-ltb _ _ (c .if1 .taken))
 
--- src/frame.rt:24:1
 returns-2 : tie.Need-returns-2
 returns-2 c = simp (le-ltb _ _ (c .if1 .left))
 

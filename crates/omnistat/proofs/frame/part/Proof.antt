@@ -4,54 +4,40 @@ use Rattle.omnistat.proofs.Laws.Part.{nothing, the-rest, in-the-middle}
 use borrow.Author.Needs.{needs}
 use Rattle.omnistat.proofs.frame.part.Statement.{statement}
 use Rattle.omnistat.proofs.frame.part.Tie as tie
-use Rattle.omnistat.proofs.frame.part.Reads as reads
-use Rattle.omnistat.proofs.frame.part.Lts as lts
 
--- src/frame.rt:108:9
 slice-aggregate-result : tie.Need-slice-aggregate-result
 slice-aggregate-result c = search needs
 
--- src/frame.rt:108:9
 returns : tie.Need-returns
 returns c = let a = c .before .before .args in nothing (now (a .bytes)) (a .from) (a .count) (omega arith)
 
--- src/frame.rt:110:8
 sub-if2 : tie.Need-sub-if2
 sub-if2 c = search needs
 
--- src/frame.rt:111:16
 sub-result : tie.Need-sub-result
 sub-result c = search needs
 
--- src/frame.rt:111:16
 part-result-start : tie.Need-part-result-start
 part-result-start c = search needs
 
--- src/frame.rt:111:16
 part-result-end : tie.Need-part-result-end
 part-result-end c = search needs
 
--- src/frame.rt:111:9
 returns-2 : tie.Need-returns-2
 returns-2 c = let a = c .before .before .before .args in the-rest (now (a .bytes)) (a .from) (a .count) (omega arith)
 
--- src/frame.rt:113:16
 add-past : tie.Need-add-past
 add-past c = search needs
 
--- src/frame.rt:114:5
 sub-result-2 : tie.Need-sub-result-2
 sub-result-2 c = search needs
 
--- src/frame.rt:114:5
 part-result-start-2 : tie.Need-part-result-start-2
 part-result-start-2 c = search needs
 
--- src/frame.rt:114:5
 part-result-end-2 : tie.Need-part-result-end-2
 part-result-end-2 c = search needs
 
--- src/frame.rt:104:1
 returns-3 : tie.Need-returns-3
 returns-3 c = let a = c .before .before .before .args in in-the-middle (now (a .bytes)) (a .from) (a .count)
 

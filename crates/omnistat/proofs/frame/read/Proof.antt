@@ -10,11 +10,6 @@ use Rattle.omnistat.proofs.Laws.Frame.{sumTest, empty, misdirected, one
 use borrow.Author.Needs.{needs}
 use Rattle.omnistat.proofs.frame.read.Statement.{statement}
 use Rattle.omnistat.proofs.frame.read.Tie as tie
-use Rattle.omnistat.proofs.frame.read.Reads as reads
-use Rattle.omnistat.proofs.frame.read.Lts as lts
-use Rattle.omnistat.proofs.frame.counted_length.Reads as counted-length-reads
-use Rattle.omnistat.proofs.frame.is_directed.Reads as is-directed-reads
-use Rattle.omnistat.proofs.frame.is_summed.Reads as is-summed-reads
 
 -- what the earlier checks left
 went-on : (c : tie.Else2) → directed (c .before .before .before .before .before .args .end) (getD (now (c .before .before .before .before .before .args .bytes)) 0 0) ≡ true
@@ -27,59 +22,47 @@ tested c =
     ap (λ (n : ℕ). sumTest (now (c .before .before .before .before .before .before .before .before .before .before .before .args .bytes)) (n - 1)) (sym (c .before .before .before .counted-length .ensures))
     ∙ sym (c .is-summed .ensures)
 
--- src/frame.rt:76:9
 returns : tie.Need-returns
 returns c = sym (empty (c .before .before .args .end) (now (c .before .before .args .bytes)) (c .if1 .taken))
 
--- src/frame.rt:78:17
 shared-slice-read-first : tie.Need-shared-slice-read-first
 shared-slice-read-first c = search needs
 
--- src/frame.rt:79:9
 is-directed-requires : tie.Need-is-directed-requires
 is-directed-requires c κs = search needs
 
--- src/frame.rt:80:9
 returns-2 : tie.Need-returns-2
 returns-2 c =
     let a = c .before .before .before .before .before .args in
     sym (misdirected (a .end) (now (a .bytes)) (omega arith) (sym (c .before .is-directed .ensures) ∙ not-true _ (c .if2 .taken)))
 
--- src/frame.rt:83:9
 returns-3 : tie.Need-returns-3
 returns-3 c =
     let a = c .before .before .before .before .before .before .args in
     sym (one-byte (a .end) (now (a .bytes)) (c .if3 .taken) (went-on (c .before)))
 
--- src/frame.rt:85:18
 shared-slice-read-second : tie.Need-shared-slice-read-second
 shared-slice-read-second c = search needs
 
--- src/frame.rt:86:9
 counted-length-requires : tie.Need-counted-length-requires
 counted-length-requires c κs = search needs
 
--- src/frame.rt:88:9
 returns-4 : tie.Need-returns-4
 returns-4 c =
     let a = c .before .before .before .before .before .before .before .before .before .args in
     sym (short (a .end) (now (a .bytes)) (omega arith) (went-on (c .before .before .before .before)) (omega arith))
 
--- src/frame.rt:91:9
 returns-5 : tie.Need-returns-5
 returns-5 c =
     let a = c .before .before .before .before .before .before .before .before .before .before .args in
     sym (long (a .end) (now (a .bytes)) (omega arith) (went-on (c .before .before .before .before .before)) (omega arith))
 
--- src/frame.rt:93:26
 sub-is-summed : tie.Need-sub-is-summed
 sub-is-summed c = search needs
 
--- src/frame.rt:93:9
 is-summed-requires : tie.Need-is-summed-requires
 is-summed-requires c κs = search needs
 
--- src/frame.rt:94:9
 returns-6 : tie.Need-returns-6
 returns-6 c =
     let a = c .before .before .before .before .before .before .before .before .before .before .before .before .args in
@@ -87,7 +70,6 @@ returns-6 c =
     (unsummed (a .end) (now (a .bytes)) (omega arith) (went-on (c .before .before .before .before .before .before .before)) (omega arith)
     (tested (c .before) ∙ not-true _ (c .if6 .taken)))
 
--- src/frame.rt:72:1
 returns-7 : tie.Need-returns-7
 returns-7 c =
     let a = c .before .before .before .before .before .before .before .before .before .before .before .before .args in

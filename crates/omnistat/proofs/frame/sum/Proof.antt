@@ -9,8 +9,6 @@ use Rattle.omnistat.specs.Frame.{sumOf}
 use Rattle.omnistat.proofs.Laws.Sum.{sum-none, sum-next}
 use Rattle.omnistat.proofs.frame.sum.Statement.{statement}
 use Rattle.omnistat.proofs.frame.sum.Tie as tie
-use Rattle.omnistat.proofs.frame.sum.Reads as reads
-use Rattle.omnistat.proofs.frame.sum.Lts as lts
 
 abbrev Inv-loop : tie.InvT-loop
 Inv-loop bytes total₀ i₀ total i = (i ≤ length bytes) × (total ≡ sumOf (take i bytes))
@@ -18,31 +16,24 @@ Inv-loop bytes total₀ i₀ total i = (i ≤ length bytes) × (total ≡ sumOf 
 abbrev μ-loop : tie.MeasureT-loop
 μ-loop bytes total₀ i₀ total i = length bytes - i
 
--- src/frame.rt:56:5
 loop-holds : tie.Need-loop-holds Inv-loop μ-loop
 loop-holds c = (search needs, sym (sum-none (now (c .args .bytes))))
 
--- src/frame.rt:57:26
 shared-slice-read-total : tie.Need-shared-slice-read-total Inv-loop μ-loop
 shared-slice-read-total c = omega arith
 
--- src/frame.rt:57:26
 cast-total : tie.Need-cast-total Inv-loop μ-loop
 cast-total c = omega (arith, c .shared-slice-known .given (c .before .before .loop .i))
 
--- src/frame.rt:57:18
 add-total : tie.Need-add-total Inv-loop μ-loop
 add-total c = omega (arith, c .shared-slice-known .given (c .before .before .loop .i))
 
--- src/frame.rt:58:9
 add-i : tie.Need-add-i Inv-loop μ-loop
 add-i c = omega arith
 
--- src/frame.rt:56:5
 loop-less : tie.Need-loop-less Inv-loop μ-loop
 loop-less c = omega arith
 
--- src/frame.rt:56:5
 loop-again : tie.Need-loop-again Inv-loop μ-loop
 loop-again c =
     let bytes = now (c .before .before .before .args .bytes) in (
@@ -51,11 +42,9 @@ loop-again c =
           ∙ sym (sum-next bytes (c .before .before .loop .i) (c .before .loop-test .taken)),
     )
 
--- src/frame.rt:60:5
 cast-result : tie.Need-cast-result Inv-loop μ-loop
 cast-result c = omega arith
 
--- src/frame.rt:51:1
 returns : tie.Need-returns Inv-loop μ-loop
 returns c =
     c .before .loop .inv .1

@@ -12,16 +12,12 @@ use Rattle.omnistat.proofs.Laws.Output.{earlier, data-placed, earlier-b
 use borrow.Author.Needs.{needs}
 use Rattle.omnistat.proofs.frame.write.Statement.{statement}
 use Rattle.omnistat.proofs.frame.write.Tie as tie
-use Rattle.omnistat.proofs.frame.write.Reads as reads
-use Rattle.omnistat.proofs.frame.write.Lts as lts
-use Rattle.omnistat.proofs.frame.copy.Reads as copy-reads
-use Rattle.omnistat.proofs.frame.sum.Reads as sum-reads
 
 -- after the copy the output has begun with all bytes but the sum
 placed : (c : tie.After-copy)
     → c .copy .last .0
-        ≡ begun (earlier (c .before .before .before .before .before .args .first) (c .before .before .before .before .before .args .kind) (now (c .before .before .before .before .before .args .payload)) (now (c .before .before .before .before .before .args .out)))
-          (now (c .before .before .before .before .before .args .out))
+    ≡ begun (earlier (c .before .before .before .before .before .args .first) (c .before .before .before .before .before .args .kind) (now (c .before .before .before .before .before .args .payload)) (now (c .before .before .before .before .before .args .out)))
+    (now (c .before .before .before .before .before .args .out))
 placed c =
     let a = c .before .before .before .before .before .args in
     let p = now (a .payload) in
@@ -31,11 +27,9 @@ placed c =
 kept : (c : tie.After-copy) → length (c .copy .last .0) ≡ length (now (c .before .before .before .before .before .args .out))
 kept c = c .copy .kept .0 ∙ simp length-set
 
--- src/frame.rt:138:16
 add-last : tie.Need-add-last
 add-last c = search needs
 
--- src/frame.rt:140:9
 returns : tie.Need-returns
 returns c =
     let a = c .before .before .before .args in
@@ -43,62 +37,48 @@ returns c =
     let old = now (a .out) in
     let bytes = bytesOf (framed (a .first) (a .kind) p) in
     let e : inRoom (length old) (accepted bytes) ≡ refused 9
-        = no-room (length old) bytes (omega (arith, bytes-length (a .first) (a .kind) p old)) in
+    = no-room (length old) bytes (omega (arith, bytes-length (a .first) (a .kind) p old)) in
     (ap (onAccepted length) (sym e), ap (λ (o : Outcome (List ℕ)). outAfter o old) (sym e))
 
--- src/frame.rt:142:5
 slice-write-out : tie.Need-slice-write-out
 slice-write-out c = search needs
 
--- src/frame.rt:143:15
-cast-out : tie.Need-cast-out
-cast-out c = search needs
+cast-n : tie.Need-cast-n
+cast-n c = search needs
 
--- src/frame.rt:143:14
 mul-out : tie.Need-mul-out
 mul-out c = search needs
 
--- src/frame.rt:143:14
 add-out : tie.Need-add-out
 add-out c = search needs
 
--- src/frame.rt:143:5
 slice-write-out-2 : tie.Need-slice-write-out-2
 slice-write-out-2 c = simp length-set (omega arith)
 
--- src/frame.rt:144:5
 copy-requires : tie.Need-copy-requires
 copy-requires c κs = simp length-set (omega arith)
 
--- src/frame.rt:145:17
 slice-reshare-prefix-sum : tie.Need-slice-reshare-prefix-sum
 slice-reshare-prefix-sum c = omega (arith, kept (c .before .before))
 
--- src/frame.rt:145:17
 slice-aggregate-sum : tie.Need-slice-aggregate-sum
 slice-aggregate-sum c = sym (length-take-le _ _ (omega (arith, kept (c .before .before .before))))
 
--- src/frame.rt:145:9
 sum-requires : tie.Need-sum-requires
 sum-requires c κs = search needs
 
--- src/frame.rt:146:5
 slice-write-out-3 : tie.Need-slice-write-out-3
 slice-write-out-3 c = omega (arith, kept (c .before .before .before .before))
 
--- src/frame.rt:147:21
-add-t7 : tie.Need-add-t7
-add-t7 c = search needs
+add-written : tie.Need-add-written
+add-written c = search needs
 
--- src/frame.rt:147:20
-cast-t21 : tie.Need-cast-t21
-cast-t21 c = search needs
+cast-t22 : tie.Need-cast-t22
+cast-t22 c = search needs
 
--- src/frame.rt:132:1
 same-length : tie.Need-same-length
 same-length c = simp length-set (kept (c .before .before .before .before))
 
--- src/frame.rt:132:1
 returns-2 : tie.Need-returns-2
 returns-2 c =
     let a = c .before .before .before .before .before .before .before .before .before .args in
@@ -108,15 +88,16 @@ returns-2 c =
     let begin = earlier (a .first) (a .kind) p old in
     let here = placed (c .before .before .before .before) in
     let e : inRoom (length old) (accepted bytes) ≡ accepted bytes
-        = with-room (length old) bytes (omega (arith, bytes-length (a .first) (a .kind) p old)) in
+    = with-room (length old) bytes (omega (arith, bytes-length (a .first) (a .kind) p old)) in
     let n : length p + 2 + 1 ≡ length bytes = omega (arith, bytes-length (a .first) (a .kind) p old) in
     let s : c .sum .result ≡ sumOf begin
-        = c .sum .ensures ∙ ap sumOf (ap (take (length p + 2)) here ∙ earlier-bytes (a .first) (a .kind) p old) in
-    (ap accepted n ∙ ap (onAccepted length) (sym e),
-    ap (λ (l : List ℕ). set l (length p + 2) (c .sum .result)) here
-    ∙ ap (set (begun begin old) (length p + 2)) s
-    ∙ sum-placed (a .first) (a .kind) p old (omega arith)
-    ∙ ap (λ (o : Outcome (List ℕ)). outAfter o old) (sym e))
+    = c .sum .ensures ∙ ap sumOf (ap (take (length p + 2)) here ∙ earlier-bytes (a .first) (a .kind) p old) in (
+      ap accepted n ∙ ap (onAccepted length) (sym e),
+      ap (λ (l : List ℕ). set l (length p + 2) (c .sum .result)) here
+          ∙ ap (set (begun begin old) (length p + 2)) s
+          ∙ sum-placed (a .first) (a .kind) p old (omega arith)
+          ∙ ap (λ (o : Outcome (List ℕ)). outAfter o old) (sym e),
+    )
 
 pub write-spec : {M : Type 1} → statement M
 write-spec =
@@ -124,8 +105,8 @@ write-spec =
     (tie.spec
     add-last
     returns
+    cast-n
     slice-write-out
-    cast-out
     mul-out
     add-out
     slice-write-out-2
@@ -134,7 +115,7 @@ write-spec =
     slice-aggregate-sum
     sum-requires
     slice-write-out-3
-    add-t7
-    cast-t21
+    add-written
+    cast-t22
     same-length
     returns-2)

@@ -3,22 +3,16 @@ use Rattle.omnistat.proofs.Laws.Run.{past-the-last, before-text, after-
 use borrow.Author.Needs.{needs}
 use Rattle.omnistat.proofs.message.is_run.Statement.{statement}
 use Rattle.omnistat.proofs.message.is_run.Tie as tie
-use Rattle.omnistat.proofs.message.is_run.Reads as reads
-use Rattle.omnistat.proofs.message.is_run.Lts as lts
 
--- src/message.rt:22:16
 add-past : tie.Need-add-past
 add-past c = search needs
 
--- src/message.rt:24:9
 returns : tie.Need-returns
 returns c = sym (past-the-last _ _ (c .if1 .taken))
 
--- src/message.rt:27:9
 returns-2 : tie.Need-returns-2
 returns-2 c = sym (before-text _ _ (c .before .if1 .left) (c .if2 .taken))
 
--- src/message.rt:19:1
 returns-3 : tie.Need-returns-3
 returns-3 c = sym (after-text _ _ (c .before .if1 .left) (c .if2 .left))
 

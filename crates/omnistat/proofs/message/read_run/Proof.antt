@@ -11,42 +11,31 @@ use Rattle.omnistat.proofs.Laws.Message.{run-short, run-long, run-of}
 use borrow.Author.Needs.{needs}
 use Rattle.omnistat.proofs.message.read_run.Statement.{statement}
 use Rattle.omnistat.proofs.message.read_run.Tie as tie
-use Rattle.omnistat.proofs.message.read_run.Reads as reads
-use Rattle.omnistat.proofs.message.read_run.Lts as lts
-use Rattle.omnistat.proofs.message.is_run.Reads as is-run-reads
 
--- src/message.rt:33:9
 returns : tie.Need-returns
 returns c = sym (run-short span (now (c .before .before .args .payload)) (c .if1 .taken))
 
--- src/message.rt:36:9
 returns-2 : tie.Need-returns-2
 returns-2 c = sym (run-long span (now (c .before .before .before .args .payload)) (c .if2 .taken))
 
--- src/message.rt:38:17
 shared-slice-read-start : tie.Need-shared-slice-read-start
 shared-slice-read-start c = search needs
 
--- src/message.rt:39:18
 sub-count : tie.Need-sub-count
 sub-count c = search needs
 
--- src/message.rt:39:17
 cast-count : tie.Need-cast-count
 cast-count c = search needs
 
--- src/message.rt:40:9
 is-run-requires : tie.Need-is-run-requires
 is-run-requires c κs = search needs
 
--- src/message.rt:41:9
 returns-3 : tie.Need-returns-3
 returns-3 c =
     sym
     (run-of span false (now (c .before .before .before .before .before .before .args .payload)) (omega arith) (omega arith)
     (sym (c .before .is-run .ensures) ∙ not-true _ (c .if3 .taken)))
 
--- src/message.rt:29:1
 returns-4 : tie.Need-returns-4
 returns-4 c =
     let d = now (c .before .before .before .before .before .before .args .payload) in

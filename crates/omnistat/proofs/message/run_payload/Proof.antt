@@ -7,23 +7,16 @@ use Rattle.omnistat.proofs.Laws.Output.{run-placed}
 use borrow.Author.Needs.{needs}
 use Rattle.omnistat.proofs.message.run_payload.Statement.{statement}
 use Rattle.omnistat.proofs.message.run_payload.Tie as tie
-use Rattle.omnistat.proofs.message.run_payload.Reads as reads
-use Rattle.omnistat.proofs.message.run_payload.Lts as lts
-use Rattle.omnistat.proofs.frame.copy.Reads as copy-reads
 
--- src/message.rt:61:5
 array-write-payload : tie.Need-array-write-payload
 array-write-payload c = search needs
 
--- src/message.rt:62:24
 slice-aggregate-copy : tie.Need-slice-aggregate-copy
 slice-aggregate-copy c = search needs
 
--- src/message.rt:62:5
 copy-requires : tie.Need-copy-requires
 copy-requires c κs = search needs
 
--- src/message.rt:56:1
 returns : tie.Need-returns
 returns c =
     let a = c .before .before .before .before .args in

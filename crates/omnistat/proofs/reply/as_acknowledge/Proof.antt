@@ -5,14 +5,10 @@ use Rattle.omnistat.specs.Message.{Reply, acknowledge}
 use Rattle.omnistat.proofs.Laws.Message.{bare, not-bare}
 use Rattle.omnistat.proofs.reply.as_acknowledge.Statement.{statement}
 use Rattle.omnistat.proofs.reply.as_acknowledge.Tie as tie
-use Rattle.omnistat.proofs.reply.as_acknowledge.Reads as reads
-use Rattle.omnistat.proofs.reply.as_acknowledge.Lts as lts
 
--- src/reply.rt:29:9
 returns : tie.Need-returns
 returns c = let a = c .before .args in simp (not-bare {M = Reply (List ℕ)} acknowledge (now (a .payload)) (c .if1 .taken))
 
--- src/reply.rt:25:1
 returns-2 : tie.Need-returns-2
 returns-2 c = let a = c .before .args in simp (bare {M = Reply (List ℕ)} acknowledge (now (a .payload)) (c .if1 .left))
 

@@ -7,30 +7,22 @@ use Rattle.omnistat.proofs.Laws.Message.{dataHeard, heard-data}
 use borrow.Author.Needs.{needs}
 use Rattle.omnistat.proofs.reply.as_data.Statement.{statement}
 use Rattle.omnistat.proofs.reply.as_data.Tie as tie
-use Rattle.omnistat.proofs.reply.as_data.Reads as reads
-use Rattle.omnistat.proofs.reply.as_data.Lts as lts
-use Rattle.omnistat.proofs.message.read_run.Reads as read-run-reads
 
--- src/reply.rt:48:11
 read-run-requires : tie.Need-read-run-requires
 read-run-requires c κs = search needs
 
--- src/reply.rt:49:22
 enum-known-r : tie.Need-enum-known-r
 enum-known-r c = search needs
 
--- src/reply.rt:50:26
 enum-known-start : tie.Need-enum-known-start
 enum-known-start c = search needs
 
--- src/reply.rt:45:1
 returns : tie.Need-returns
 returns c =
     let a = c .before .before .before .before .before .args in
     ap (λ (r : Run). onAccepted (dataHeard (a .number)) (runOf r)) (sym (c .before .r .given .1))
     ∙ heard-data (a .number) (now (a .payload)) _ (c .before .before .before .read-run .ensures)
 
--- src/reply.rt:45:1
 returns-2 : tie.Need-returns-2
 returns-2 c =
     let a = c .before .before .before .before .before .args in

@@ -10,25 +10,18 @@ use Rattle.omnistat.proofs.Laws.Message.{wrong-count, right-count}
 use borrow.Author.Needs.{needs}
 use Rattle.omnistat.proofs.reply.as_group.Statement.{statement}
 use Rattle.omnistat.proofs.reply.as_group.Tie as tie
-use Rattle.omnistat.proofs.reply.as_group.Reads as reads
-use Rattle.omnistat.proofs.reply.as_group.Lts as lts
-use Rattle.omnistat.proofs.group.reply_length.Reads as reply-length-reads
 
--- src/reply.rt:58:9
 reply-length-requires : tie.Need-reply-length-requires
 reply-length-requires c κs = search needs
 
--- src/reply.rt:59:25
 cast-if1 : tie.Need-cast-if1
 cast-if1 c = search needs
 
--- src/reply.rt:60:9
 returns : tie.Need-returns
 returns c =
     let a = c .before .before .before .args in
     simp (wrong-count (a .group) (now (a .payload)) (λ e. c .if1 .taken (e ∙ sym (c .before .reply-length .ensures))))
 
--- src/reply.rt:55:1
 returns-2 : tie.Need-returns-2
 returns-2 c =
     let a = c .before .before .before .args in

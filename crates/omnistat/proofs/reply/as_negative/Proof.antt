@@ -5,14 +5,10 @@ use Rattle.omnistat.specs.Message.{Reply, negative}
 use Rattle.omnistat.proofs.Laws.Message.{bare, not-bare}
 use Rattle.omnistat.proofs.reply.as_negative.Statement.{statement}
 use Rattle.omnistat.proofs.reply.as_negative.Tie as tie
-use Rattle.omnistat.proofs.reply.as_negative.Reads as reads
-use Rattle.omnistat.proofs.reply.as_negative.Lts as lts
 
--- src/reply.rt:39:9
 returns : tie.Need-returns
 returns c = let a = c .before .args in simp (not-bare {M = Reply (List ℕ)} negative (now (a .payload)) (c .if1 .taken))
 
--- src/reply.rt:35:1
 returns-2 : tie.Need-returns-2
 returns-2 c = let a = c .before .args in simp (bare {M = Reply (List ℕ)} negative (now (a .payload)) (c .if1 .left))
 

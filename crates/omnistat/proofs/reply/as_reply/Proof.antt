@@ -7,71 +7,52 @@ use Rattle.omnistat.proofs.Laws.Message.{names-acknowledge, names-negat
 use borrow.Author.Needs.{needs}
 use Rattle.omnistat.proofs.reply.as_reply.Statement.{statement}
 use Rattle.omnistat.proofs.reply.as_reply.Tie as tie
-use Rattle.omnistat.proofs.reply.as_reply.Reads as reads
-use Rattle.omnistat.proofs.reply.as_reply.Lts as lts
-use Rattle.omnistat.proofs.group.replied.Reads as replied-reads
-use Rattle.omnistat.proofs.reply.as_acknowledge.Reads as as-acknowledge-reads
-use Rattle.omnistat.proofs.reply.as_data.Reads as as-data-reads
-use Rattle.omnistat.proofs.reply.as_group.Reads as as-group-reads
-use Rattle.omnistat.proofs.reply.as_negative.Reads as as-negative-reads
 
--- src/reply.rt:82:9
 as-acknowledge-requires : tie.Need-as-acknowledge-requires
 as-acknowledge-requires c κs = search needs
 
--- src/reply.rt:82:9
 returns : tie.Need-returns
 returns c =
     let a = c .before .before .before .args in
     c .as-acknowledge .ensures ∙ ap (onAccepted (heardReply (a .number))) (sym (names-acknowledge (a .kind) (now (a .payload)) (c .before .if1 .taken)))
 
--- src/reply.rt:85:9
 as-negative-requires : tie.Need-as-negative-requires
 as-negative-requires c κs = search needs
 
--- src/reply.rt:85:9
 returns-2 : tie.Need-returns-2
 returns-2 c =
     let a = c .before .before .before .before .args in
     c .as-negative .ensures ∙ ap (onAccepted (heardReply (a .number))) (sym (names-negative (a .kind) (now (a .payload)) (c .before .if2 .taken)))
 
--- src/reply.rt:88:9
 as-data-requires : tie.Need-as-data-requires
 as-data-requires c κs = search needs
 
--- src/reply.rt:88:9
 returns-3 : tie.Need-returns-3
 returns-3 c =
     let a = c .before .before .before .before .before .args in
     c .as-data .ensures ∙ ap (onAccepted (heardReply (a .number))) (sym (names-data (a .kind) (now (a .payload)) (c .before .if3 .taken)))
 
--- src/reply.rt:90:11
 replied-requires : tie.Need-replied-requires
 replied-requires c κs = search needs
 
--- src/reply.rt:91:19
 enum-known-group : tie.Need-enum-known-group
 enum-known-group c = search needs
 
--- src/reply.rt:91:29
 as-group-requires : tie.Need-as-group-requires
 as-group-requires c κs = search needs
 
--- src/reply.rt:92:42
 enum-told : tie.Need-enum-told
 enum-told c = search needs
 
--- src/reply.rt:78:1
 returns-4 : tie.Need-returns-4
 returns-4 c =
     let a = c .before .before .before .before .before .before .before .before .before .args in
     c .as-group .ensures
     ∙ ap (onAccepted (heardReply (a .number)))
-        (sym
-        (names-group (a .kind) (now (a .payload)) (c .before .before .before .before .before .before .before .if1 .left) (c .before .before .before .before .before .before .if2 .left) (c .before .before .before .before .before .if3 .left) (Of (c .before .before .group .given .0 .0))
-        (sym (c .before .before .group .given .1) ∙ c .before .before .before .before .replied .ensures)))
+    (sym
+    (names-group (a .kind) (now (a .payload)) (c .before .before .before .before .before .before .before .if1 .left) (c .before .before .before .before .before .before .if2 .left) (c .before .before .before .before .before .if3 .left) (Of (c .before .before .group .given .0 .0))
+    (sym (c .before .before .group .given .1) ∙ c .before .before .before .before .replied .ensures)))
 
--- src/reply.rt:78:1
 returns-5 : tie.Need-returns-5
 returns-5 c =
     let a = c .before .before .before .before .before .before .before .args in

@@ -8,63 +8,49 @@ use Rattle.omnistat.proofs.Laws.Outcome.{checked}
 use borrow.Author.Needs.{needs}
 use Rattle.omnistat.proofs.reply.check.Statement.{statement}
 use Rattle.omnistat.proofs.reply.check.Tie as tie
-use Rattle.omnistat.proofs.reply.check.Reads as reads
-use Rattle.omnistat.proofs.reply.check.Lts as lts
-use Rattle.omnistat.proofs.reply.as_reply.Reads as as-reply-reads
 
--- src/reply.rt:133:11
 as-reply-requires : tie.Need-as-reply-requires
 as-reply-requires c κs = search needs
 
--- src/reply.rt:134:24
 enum-known-r : tie.Need-enum-known-r
 enum-known-r c = search needs
 
--- src/reply.rt:135:45
 enum-told : tie.Need-enum-told
 enum-told c = search needs
 
--- src/reply.rt:136:42
 enum-told-2 : tie.Need-enum-told-2
 enum-told-2 c = search needs
 
--- src/reply.rt:137:58
 enum-told-3 : tie.Need-enum-told-3
 enum-told-3 c = search needs
 
--- src/reply.rt:138:59
 enum-told-4 : tie.Need-enum-told-4
 enum-told-4 c = search needs
 
--- src/reply.rt:130:1
 returns : tie.Need-returns
 returns c =
     let a = c .before .before .before .before .before .args in
     ap (λ (r : Reply). onAccepted passed (replyOf r)) (sym (c .before .r .given .1))
     ∙ checked (heardReply 0) (asReply (a .kind) (now (a .payload))) _ (c .before .before .before .as-reply .ensures)
 
--- src/reply.rt:130:1
 returns-2 : tie.Need-returns-2
 returns-2 c =
     let a = c .before .before .before .before .args in
     ap (λ (r : Reply). onAccepted passed (replyOf r)) (sym (c .enum-told .given .1))
     ∙ checked (heardReply 0) (asReply (a .kind) (now (a .payload))) _ (c .before .before .as-reply .ensures)
 
--- src/reply.rt:130:1
 returns-3 : tie.Need-returns-3
 returns-3 c =
     let a = c .before .before .before .before .args in
     ap (λ (r : Reply). onAccepted passed (replyOf r)) (sym (c .enum-told2 .given .1))
     ∙ checked (heardReply 0) (asReply (a .kind) (now (a .payload))) _ (c .before .before .as-reply .ensures)
 
--- src/reply.rt:130:1
 returns-4 : tie.Need-returns-4
 returns-4 c =
     let a = c .before .before .before .before .args in
     ap (λ (r : Reply). onAccepted passed (replyOf r)) (sym (c .enum-told3 .given .1))
     ∙ checked (heardReply 0) (asReply (a .kind) (now (a .payload))) _ (c .before .before .as-reply .ensures)
 
--- src/reply.rt:130:1
 returns-5 : tie.Need-returns-5
 returns-5 c =
     let a = c .before .before .before .before .args in

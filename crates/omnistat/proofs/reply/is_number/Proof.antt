@@ -3,14 +3,10 @@ use borrow.Author.Tests.{le-leb}
 use Rattle.omnistat.proofs.Laws.Message.{too-low}
 use Rattle.omnistat.proofs.reply.is_number.Statement.{statement}
 use Rattle.omnistat.proofs.reply.is_number.Tie as tie
-use Rattle.omnistat.proofs.reply.is_number.Reads as reads
-use Rattle.omnistat.proofs.reply.is_number.Lts as lts
 
--- src/reply.rt:147:9
 returns : tie.Need-returns
 returns c = sym (too-low 1 127 (c .before .args .number) (c .if1 .taken))
 
--- src/reply.rt:143:1
 returns-2 : tie.Need-returns-2
 returns-2 c = simp (le-leb 1 (c .before .args .number) (c .if1 .left))
 

@@ -12,34 +12,24 @@ use Rattle.omnistat.proofs.Laws.Message.{within-both}
 use borrow.Author.Needs.{needs}
 use Rattle.omnistat.proofs.reply.write.Statement.{statement}
 use Rattle.omnistat.proofs.reply.write.Tie as tie
-use Rattle.omnistat.proofs.reply.write.Reads as reads
-use Rattle.omnistat.proofs.reply.write.Lts as lts
-use Rattle.omnistat.proofs.frame.write.Reads as write-reads
-use Rattle.omnistat.proofs.reply.check.Reads as check-reads
-use Rattle.omnistat.proofs.reply.is_number.Reads as is-number-reads
 
 -- the type and the data bytes passed their checks
 went-on : (c : tie.After-enum-told)
     → accepted tt ≡ onAccepted passed (asMessage Host (c .before .before .before .before .before .args .kind) (now (c .before .before .before .before .before .args .payload)))
 went-on c = ap checkOf (sym (c .enum-told .given .1)) ∙ c .before .before .check .ensures
 
--- src/reply.rt:157:11
 check-requires : tie.Need-check-requires
 check-requires c κs = search needs
 
--- src/reply.rt:158:24
 enum-known-r : tie.Need-enum-known-r
 enum-known-r c = search needs
 
--- src/reply.rt:160:17
 enum-told : tie.Need-enum-told
 enum-told c = search needs
 
--- src/reply.rt:160:17
 is-number-requires : tie.Need-is-number-requires
 is-number-requires c κs = search needs
 
--- src/reply.rt:161:17
 returns : tie.Need-returns
 returns c =
     let a = c .before .before .before .before .before .before .before .args in
@@ -47,20 +37,18 @@ returns c =
     (write-misaddressed Host (a .number) (a .kind) (now (a .payload)) (went-on (c .before .before))
     (sym (c .before .is-number .ensures) ∙ not-true _ (c .if1 .taken)))
 
--- src/reply.rt:163:33
 add-write : tie.Need-add-write
 add-write c =
-    omega
-    (arith,
-    within-both 1 127 (c .before .before .before .before .before .before .before .args .number) (sym (c .before .is-number .ensures) ∙ not-false _ (c .if1 .left)) .1)
+    omega (
+      arith,
+      within-both 1 127 (c .before .before .before .before .before .before .before .args .number) (sym (c .before .is-number .ensures) ∙ not-false _ (c .if1 .left)) .1,
+    )
 
--- src/reply.rt:163:13
 write-requires : tie.Need-write-requires
 write-requires c κs =
     let a = c .before .before .before .before .before .before .before .before .args in
     frame-fits Host (a .number) (a .kind) (now (a .payload)) (went-on (c .before .before .before))
 
--- src/reply.rt:153:1
 returns-2 : tie.Need-returns-2
 returns-2 c =
     let a = c .before .before .before .before .before .before .args in
@@ -68,11 +56,9 @@ returns-2 c =
     (write-refused Host (a .number) (a .kind) (now (a .payload)) (numberOf (c .before .r .given .0 .0))
     (ap checkOf (sym (c .before .r .given .1)) ∙ c .before .before .before .check .ensures))
 
--- src/reply.rt:153:1
 same-length : tie.Need-same-length
 same-length c = search needs
 
--- src/reply.rt:153:1
 returns-3 : tie.Need-returns-3
 returns-3 c =
     let a = c .before .before .before .before .before .before .before .before .before .before .before .args in

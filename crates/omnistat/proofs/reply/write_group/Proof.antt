@@ -9,24 +9,16 @@ use Rattle.omnistat.proofs.Laws.Output.{leaves-same}
 use borrow.Author.Needs.{needs}
 use Rattle.omnistat.proofs.reply.write_group.Statement.{statement}
 use Rattle.omnistat.proofs.reply.write_group.Tie as tie
-use Rattle.omnistat.proofs.reply.write_group.Reads as reads
-use Rattle.omnistat.proofs.reply.write_group.Lts as lts
-use Rattle.omnistat.proofs.group.reply_type.Reads as reply-type-reads
-use Rattle.omnistat.proofs.reply.write.Reads as write-reads
 
--- src/reply.rt:204:19
 reply-type-requires : tie.Need-reply-type-requires
 reply-type-requires c κs = search needs
 
--- src/reply.rt:204:5
 write-requires : tie.Need-write-requires
 write-requires c κs = search needs
 
--- src/reply.rt:200:1
 same-length : tie.Need-same-length
 same-length c = search needs
 
--- src/reply.rt:200:1
 returns : tie.Need-returns
 returns c =
     let a = c .before .before .before .before .before .before .before .args in

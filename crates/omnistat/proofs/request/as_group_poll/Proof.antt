@@ -5,14 +5,10 @@ use Rattle.omnistat.specs.Message.{Request, pollGroup}
 use Rattle.omnistat.proofs.Laws.Message.{bare, not-bare}
 use Rattle.omnistat.proofs.request.as_group_poll.Statement.{statement}
 use Rattle.omnistat.proofs.request.as_group_poll.Tie as tie
-use Rattle.omnistat.proofs.request.as_group_poll.Reads as reads
-use Rattle.omnistat.proofs.request.as_group_poll.Lts as lts
 
--- src/request.rt:59:9
 returns : tie.Need-returns
 returns c = let a = c .before .args in simp (not-bare {M = Request (List ℕ)} (pollGroup (a .group)) (now (a .payload)) (c .if1 .taken))
 
--- src/request.rt:55:1
 returns-2 : tie.Need-returns-2
 returns-2 c = let a = c .before .args in simp (bare {M = Request (List ℕ)} (pollGroup (a .group)) (now (a .payload)) (c .if1 .left))
 

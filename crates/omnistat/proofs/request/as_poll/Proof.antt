@@ -6,39 +6,29 @@ use Rattle.omnistat.proofs.Laws.Message.{too-low, too-high, inside, pol
 use borrow.Author.Needs.{needs}
 use Rattle.omnistat.proofs.request.as_poll.Statement.{statement}
 use Rattle.omnistat.proofs.request.as_poll.Tie as tie
-use Rattle.omnistat.proofs.request.as_poll.Reads as reads
-use Rattle.omnistat.proofs.request.as_poll.Lts as lts
-use Rattle.omnistat.proofs.message.is_run.Reads as is-run-reads
 
--- src/request.rt:28:9
 returns : tie.Need-returns
 returns c = simp (poll-length (now (c .before .before .args .payload)) (c .if1 .taken))
 
--- src/request.rt:30:17
 shared-slice-read-start : tie.Need-shared-slice-read-start
 shared-slice-read-start c = search needs
 
--- src/request.rt:31:17
 shared-slice-read-count : tie.Need-shared-slice-read-count
 shared-slice-read-count c = search needs
 
--- src/request.rt:33:9
 returns-2 : tie.Need-returns-2
 returns-2 c =
     let d = now (c .before .before .before .before .before .args .payload) in
     simp (poll-count d (c .before .before .before .if1 .left) (too-low 1 14 (getD d 1 0) (c .if2 .taken)))
 
--- src/request.rt:36:9
 returns-3 : tie.Need-returns-3
 returns-3 c =
     let d = now (c .before .before .before .before .before .before .args .payload) in
     simp (poll-count d (c .before .before .before .before .if1 .left) (too-high 1 14 (getD d 1 0) (c .if3 .taken)))
 
--- src/request.rt:38:9
 is-run-requires : tie.Need-is-run-requires
 is-run-requires c κs = search needs
 
--- src/request.rt:39:9
 returns-4 : tie.Need-returns-4
 returns-4 c =
     let d = now (c .before .before .before .before .before .before .before .before .args .payload) in
@@ -46,7 +36,6 @@ returns-4 c =
     (poll-run d (c .before .before .before .before .before .before .if1 .left) (inside 1 14 (getD d 1 0) (c .before .before .before .if2 .left) (c .before .before .if3 .left))
     (sym (c .before .is-run .ensures) ∙ not-true _ (c .if4 .taken)))
 
--- src/request.rt:24:1
 returns-5 : tie.Need-returns-5
 returns-5 c =
     let d = now (c .before .before .before .before .before .before .before .before .args .payload) in

@@ -7,60 +7,44 @@ use Rattle.omnistat.proofs.Laws.Message.{names-poll, names-set, names-g
 use borrow.Author.Needs.{needs}
 use Rattle.omnistat.proofs.request.as_request.Statement.{statement}
 use Rattle.omnistat.proofs.request.as_request.Tie as tie
-use Rattle.omnistat.proofs.request.as_request.Reads as reads
-use Rattle.omnistat.proofs.request.as_request.Lts as lts
-use Rattle.omnistat.proofs.group.polled.Reads as polled-reads
-use Rattle.omnistat.proofs.request.as_group_poll.Reads as as-group-poll-reads
-use Rattle.omnistat.proofs.request.as_poll.Reads as as-poll-reads
-use Rattle.omnistat.proofs.request.as_set.Reads as as-set-reads
 
--- src/request.rt:80:9
 as-poll-requires : tie.Need-as-poll-requires
 as-poll-requires c κs = search needs
 
--- src/request.rt:80:9
 returns : tie.Need-returns
 returns c =
     let a = c .before .before .before .args in
     c .as-poll .ensures ∙ ap (onAccepted (heardRequest (a .first))) (sym (names-poll (a .kind) (now (a .payload)) (c .before .if1 .taken)))
 
--- src/request.rt:83:9
 as-set-requires : tie.Need-as-set-requires
 as-set-requires c κs = search needs
 
--- src/request.rt:83:9
 returns-2 : tie.Need-returns-2
 returns-2 c =
     let a = c .before .before .before .before .args in
     c .as-set .ensures ∙ ap (onAccepted (heardRequest (a .first))) (sym (names-set (a .kind) (now (a .payload)) (c .before .if2 .taken)))
 
--- src/request.rt:85:11
 polled-requires : tie.Need-polled-requires
 polled-requires c κs = search needs
 
--- src/request.rt:86:19
 enum-known-group : tie.Need-enum-known-group
 enum-known-group c = search needs
 
--- src/request.rt:86:29
 as-group-poll-requires : tie.Need-as-group-poll-requires
 as-group-poll-requires c κs = search needs
 
--- src/request.rt:87:44
 enum-told : tie.Need-enum-told
 enum-told c = search needs
 
--- src/request.rt:76:1
 returns-3 : tie.Need-returns-3
 returns-3 c =
     let a = c .before .before .before .before .before .before .before .before .args in
     c .as-group-poll .ensures
     ∙ ap (onAccepted (heardRequest (a .first)))
-        (sym
-        (names-group-poll (a .kind) (now (a .payload)) (c .before .before .before .before .before .before .if1 .left) (c .before .before .before .before .before .if2 .left) (Of (c .before .before .group .given .0 .0))
-        (sym (c .before .before .group .given .1) ∙ c .before .before .before .before .polled .ensures)))
+    (sym
+    (names-group-poll (a .kind) (now (a .payload)) (c .before .before .before .before .before .before .if1 .left) (c .before .before .before .before .before .if2 .left) (Of (c .before .before .group .given .0 .0))
+    (sym (c .before .before .group .given .1) ∙ c .before .before .before .before .polled .ensures)))
 
--- src/request.rt:76:1
 returns-4 : tie.Need-returns-4
 returns-4 c =
     let a = c .before .before .before .before .before .before .args in

@@ -8,52 +8,40 @@ use Rattle.omnistat.proofs.Laws.Outcome.{checked}
 use borrow.Author.Needs.{needs}
 use Rattle.omnistat.proofs.request.check.Statement.{statement}
 use Rattle.omnistat.proofs.request.check.Tie as tie
-use Rattle.omnistat.proofs.request.check.Reads as reads
-use Rattle.omnistat.proofs.request.check.Lts as lts
-use Rattle.omnistat.proofs.request.as_request.Reads as as-request-reads
 
--- src/request.rt:121:11
 as-request-requires : tie.Need-as-request-requires
 as-request-requires c κs = search needs
 
--- src/request.rt:122:26
 enum-known-r : tie.Need-enum-known-r
 enum-known-r c = search needs
 
--- src/request.rt:123:59
 enum-told : tie.Need-enum-told
 enum-told c = search needs
 
--- src/request.rt:124:58
 enum-told-2 : tie.Need-enum-told-2
 enum-told-2 c = search needs
 
--- src/request.rt:125:54
 enum-told-3 : tie.Need-enum-told-3
 enum-told-3 c = search needs
 
--- src/request.rt:118:1
 returns : tie.Need-returns
 returns c =
     let a = c .before .before .before .before .before .args in
     ap (λ (r : Request). onAccepted passed (requestOf r)) (sym (c .before .r .given .1))
     ∙ checked (heardRequest 0) (asRequest (a .kind) (now (a .payload))) _ (c .before .before .before .as-request .ensures)
 
--- src/request.rt:118:1
 returns-2 : tie.Need-returns-2
 returns-2 c =
     let a = c .before .before .before .before .args in
     ap (λ (r : Request). onAccepted passed (requestOf r)) (sym (c .enum-told .given .1))
     ∙ checked (heardRequest 0) (asRequest (a .kind) (now (a .payload))) _ (c .before .before .as-request .ensures)
 
--- src/request.rt:118:1
 returns-3 : tie.Need-returns-3
 returns-3 c =
     let a = c .before .before .before .before .args in
     ap (λ (r : Request). onAccepted passed (requestOf r)) (sym (c .enum-told2 .given .1))
     ∙ checked (heardRequest 0) (asRequest (a .kind) (now (a .payload))) _ (c .before .before .as-request .ensures)
 
--- src/request.rt:118:1
 returns-4 : tie.Need-returns-4
 returns-4 c =
     let a = c .before .before .before .before .args in

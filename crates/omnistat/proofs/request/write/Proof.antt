@@ -10,34 +10,24 @@ use Rattle.omnistat.proofs.Laws.Output.{leaves-refused, leaves-same}
 use borrow.Author.Needs.{needs}
 use Rattle.omnistat.proofs.request.write.Statement.{statement}
 use Rattle.omnistat.proofs.request.write.Tie as tie
-use Rattle.omnistat.proofs.request.write.Reads as reads
-use Rattle.omnistat.proofs.request.write.Lts as lts
-use Rattle.omnistat.proofs.frame.is_to_thermostat.Reads as is-to-thermostat-reads
-use Rattle.omnistat.proofs.frame.write.Reads as write-reads
-use Rattle.omnistat.proofs.request.check.Reads as check-reads
 
 -- the type and the data bytes passed their checks
 went-on : (c : tie.After-enum-told)
     → accepted tt ≡ onAccepted passed (asMessage Thermostat (c .before .before .before .before .before .args .kind) (now (c .before .before .before .before .before .args .payload)))
 went-on c = ap checkOf (sym (c .enum-told .given .1)) ∙ c .before .before .check .ensures
 
--- src/request.rt:134:11
 check-requires : tie.Need-check-requires
 check-requires c κs = search needs
 
--- src/request.rt:135:24
 enum-known-r : tie.Need-enum-known-r
 enum-known-r c = search needs
 
--- src/request.rt:137:17
 enum-told : tie.Need-enum-told
 enum-told c = search needs
 
--- src/request.rt:137:17
 is-to-thermostat-requires : tie.Need-is-to-thermostat-requires
 is-to-thermostat-requires c κs = search needs
 
--- src/request.rt:138:17
 returns : tie.Need-returns
 returns c =
     let a = c .before .before .before .before .before .before .before .args in
@@ -45,13 +35,11 @@ returns c =
     (write-misaddressed Thermostat (a .address) (a .kind) (now (a .payload)) (went-on (c .before .before))
     (sym (c .before .is-to-thermostat .ensures) ∙ not-true _ (c .if1 .taken)))
 
--- src/request.rt:140:13
 write-requires : tie.Need-write-requires
 write-requires c κs =
     let a = c .before .before .before .before .before .before .before .before .args in
     frame-fits Thermostat (a .address) (a .kind) (now (a .payload)) (went-on (c .before .before .before))
 
--- src/request.rt:130:1
 returns-2 : tie.Need-returns-2
 returns-2 c =
     let a = c .before .before .before .before .before .before .args in
@@ -59,11 +47,9 @@ returns-2 c =
     (write-refused Thermostat (a .address) (a .kind) (now (a .payload)) (numberOf (c .before .r .given .0 .0))
     (ap checkOf (sym (c .before .r .given .1)) ∙ c .before .before .before .check .ensures))
 
--- src/request.rt:130:1
 same-length : tie.Need-same-length
 same-length c = search needs
 
--- src/request.rt:130:1
 returns-3 : tie.Need-returns-3
 returns-3 c =
     let a = c .before .before .before .before .before .before .before .before .before .before .before .args in

@@ -9,32 +9,22 @@ use Rattle.omnistat.proofs.Laws.Output.{leaves-same}
 use borrow.Author.Needs.{needs}
 use Rattle.omnistat.proofs.request.write_group_poll.Statement.{statement}
 use Rattle.omnistat.proofs.request.write_group_poll.Tie as tie
-use Rattle.omnistat.proofs.request.write_group_poll.Reads as reads
-use Rattle.omnistat.proofs.request.write_group_poll.Lts as lts
-use Rattle.omnistat.proofs.group.poll_type.Reads as poll-type-reads
-use Rattle.omnistat.proofs.request.write.Reads as write-reads
 
--- src/request.rt:173:20
 poll-type-requires : tie.Need-poll-type-requires
 poll-type-requires c κs = search needs
 
--- src/request.rt:173:52
 array-share-prefix-none : tie.Need-array-share-prefix-none
 array-share-prefix-none c = search needs
 
--- src/request.rt:173:52
 slice-aggregate-write : tie.Need-slice-aggregate-write
 slice-aggregate-write c = search needs
 
--- src/request.rt:173:5
 write-requires : tie.Need-write-requires
 write-requires c κs = search needs
 
--- src/request.rt:168:1
 same-length : tie.Need-same-length
 same-length c = search needs
 
--- src/request.rt:168:1
 returns : tie.Need-returns
 returns c =
     let a = c .before .before .before .before .before .before .before .args in

@@ -12,46 +12,34 @@ use Rattle.omnistat.proofs.Laws.Output.{leaves-refused, leaves-same}
 use borrow.Author.Needs.{needs}
 use Rattle.omnistat.proofs.request.write_set.Statement.{statement}
 use Rattle.omnistat.proofs.request.write_set.Tie as tie
-use Rattle.omnistat.proofs.request.write_set.Reads as reads
-use Rattle.omnistat.proofs.request.write_set.Lts as lts
-use Rattle.omnistat.proofs.message.run_payload.Reads as run-payload-reads
-use Rattle.omnistat.proofs.request.write.Reads as write-reads
 
--- src/request.rt:160:9
 returns : tie.Need-returns
 returns c =
     let a = c .before .before .before .args in
     leaves-refused (now (a .out)) (write Thermostat (a .address) (setFrom (a .start) (now (a .values)))) 7
     (set-too-long (a .address) (a .start) (now (a .values)) (c .if1 .taken))
 
--- src/request.rt:162:19
 run-payload-requires : tie.Need-run-payload-requires
 run-payload-requires c κs = search needs
 
--- src/request.rt:163:13
 add-n : tie.Need-add-n
 add-n c = search needs
 
--- src/request.rt:164:23
 array-share-prefix-payload : tie.Need-array-share-prefix-payload
 array-share-prefix-payload c = search needs
 
--- src/request.rt:164:23
 slice-aggregate-write : tie.Need-slice-aggregate-write
 slice-aggregate-write c =
     let e : length (now (c .before .before .before .before .before .args .values)) + 1
-        ≡ length (c .before .before .before .before .before .args .start ∷ now (c .before .before .before .before .before .args .values)) = omega arith in
+    ≡ length (c .before .before .before .before .before .args .start ∷ now (c .before .before .before .before .before .args .values)) = omega arith in
     e ∙ ap length (sym (c .before .run-payload .ensures))
 
--- src/request.rt:164:5
 write-requires : tie.Need-write-requires
 write-requires c κs = search needs
 
--- src/request.rt:155:1
 same-length : tie.Need-same-length
 same-length c = search needs
 
--- src/request.rt:155:1
 returns-2 : tie.Need-returns-2
 returns-2 c =
     let a = c .before .before .before .before .before .before .before .before .before .args in
