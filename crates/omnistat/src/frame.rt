@@ -54,7 +54,7 @@ pub(crate) fn sum(bytes: &[u8]) -> u8
     ensures { λ r. ⌜ r ≡ sumOf (now (bytes .entry)) ⌝ }
 {
     let mut total: u32 = 0;
-    let mut i = 0;
+    let mut i: usize = 0;
     while i < bytes.len() {
         total = (total + bytes[i] as u32) % 256;
         i += 1;
@@ -136,7 +136,8 @@ pub(crate) fn write(first: u8, kind: u8, payload: &[u8], out: &mut [u8]) -> Writ
     ensures { λ r. ⌜ now (out .exit) ≡ outAfter (inRoom (length (now (out .entry))) (accepted (bytesOf (framed first kind (now (payload .entry)))))) (now (out .entry)) ⌝ }
 {
     let last = payload.len() + 2;
-    if out.len() <= last {
+    let written = last + 1;
+    if out.len() < written {
         return Written::Refused(Refusal::Room);
     }
     let n = payload.len() as u8;
@@ -145,6 +146,5 @@ pub(crate) fn write(first: u8, kind: u8, payload: &[u8], out: &mut [u8]) -> Writ
     copy(out, 2, payload);
     let s = sum(&out[..last]);
     out[last] = s;
-    let written = last + 1;
     Written::Count(written as u32)
 }

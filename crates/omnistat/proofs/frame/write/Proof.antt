@@ -104,6 +104,7 @@ write-spec =
     tie.close
     (tie.spec
     add-last
+    add-written
     returns
     cast-n
     slice-write-out
@@ -115,7 +116,6 @@ write-spec =
     slice-aggregate-sum
     sum-requires
     slice-write-out-3
-    add-written
     cast-t22
     same-length
     returns-2)
