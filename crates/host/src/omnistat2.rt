@@ -7,8 +7,13 @@ ghost use Rattle.answer.specs.Packed.{packed, word};
 ghost use Rattle.omnistat.specs.Omnistat.{read, writeBytes};
 ghost use Rattle.omnistat.specs.Answer.{requestOf, requestFields, replyOf, replyFields, onMessage, countedRequest, countedReply};
 use omnistat::frame::End;
+use omnistat::reply::ACKNOWLEDGE;
+use omnistat::reply::DATA;
+use omnistat::reply::NEGATIVE;
 use omnistat::reply::Reply;
+use omnistat::request::POLL;
 use omnistat::request::Request;
+use omnistat::request::SET;
 
 // A packed request: type, first byte, start and count.
 fn pack_request(r: Request) -> u64
@@ -20,12 +25,12 @@ fn pack_request(r: Request) -> u64
             first,
             start,
             count,
-        } => answer::pack_4_bytes(0, first, start, count),
+        } => answer::pack_4_bytes(POLL, first, start, count),
         Request::Set {
             first,
             start,
             count,
-        } => answer::pack_4_bytes(1, first, start, count),
+        } => answer::pack_4_bytes(SET, first, start, count),
         Request::PollGroup { first, group } => answer::pack_4_bytes(
             omnistat::group::poll_type(group),
             first,
@@ -41,13 +46,13 @@ fn pack_reply(r: Reply) -> u64
 {
     match r {
         Reply::Refused(e) => answer::pack_refusal(e),
-        Reply::Acknowledge { number } => answer::pack_4_bytes(0, number, 0, 0),
-        Reply::Negative { number } => answer::pack_4_bytes(1, number, 0, 0),
+        Reply::Acknowledge { number } => answer::pack_4_bytes(ACKNOWLEDGE, number, 0, 0),
+        Reply::Negative { number } => answer::pack_4_bytes(NEGATIVE, number, 0, 0),
         Reply::Data {
             number,
             start,
             count,
-        } => answer::pack_4_bytes(2, number, start, count),
+        } => answer::pack_4_bytes(DATA, number, start, count),
         Reply::Group {
             number,
             group,

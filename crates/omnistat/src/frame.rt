@@ -10,6 +10,11 @@ ghost use Rattle.omnistat.specs.Answer.{framedIn};
 use answer::Refusal;
 use answer::Written;
 
+// The number of a thermostat and this make the first byte of its reply.
+pub(crate) const REPLY: u8 = 0x80;
+// The address that every thermostat answers to.
+const UNIVERSAL: u8 = 0xFA;
+
 // The end that a message is for.
 pub enum End {
     Thermostat,
@@ -26,10 +31,10 @@ pub enum Framed {
 pub(crate) fn is_to_thermostat(first: u8) -> bool
     ensures { λ r. ⌜ r ≡ directed End.Thermostat first ⌝ }
 {
-    if first < 0x80 {
+    if first < REPLY {
         return true;
     }
-    first == 0xFA
+    first == UNIVERSAL
 }
 
 // Whether a message to this end may start with this byte. At the host FA is a reply from 7A.
@@ -38,7 +43,7 @@ pub(crate) fn is_directed(end: End, first: u8) -> bool
 {
     match end {
         End::Thermostat => is_to_thermostat(first),
-        End::Host => first > 0x80,
+        End::Host => first > REPLY,
     }
 }
 
@@ -62,7 +67,7 @@ pub(crate) fn sum(bytes: &[u8]) -> u8
     total as u8
 }
 
-// Whether the last of `length` bytes is the sum of the earlier ones.
+// Whether the byte at a place is the sum of those before it.
 fn is_summed(bytes: &[u8], last: usize) -> bool
     requires { ⌜ last < length (now bytes) ⌝ }
     ensures { λ r. ⌜ r ≡ eqb (getD (now (bytes .entry)) last 0) (sumOf (take last (now (bytes .entry)))) ⌝ }

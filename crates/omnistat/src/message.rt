@@ -8,6 +8,17 @@ ghost use Rattle.omnistat.specs.Message.{asRun};
 ghost use Rattle.omnistat.specs.Answer.{runOf, span};
 use answer::Refusal;
 
+// The most values that one message sets or returns, and with the start register the most data bytes.
+pub(crate) const MOST_VALUES: usize = 14;
+
+const MOST_DATA: usize = 15;
+// The count of registers, and the registers that hold text.
+const REGISTERS: u16 = 256;
+
+const FIRST_TEXT: u16 = 172;
+
+const LAST_TEXT: u8 = 181;
+
 // A start register and the count of the values that follow it.
 pub enum Run {
     Refused(Refusal),
@@ -19,13 +30,13 @@ pub(crate) fn is_run(start: u8, count: u8) -> bool
     ensures { λ r. ⌜ r ≡ runAllowed start count ⌝ }
 {
     let past = (start as u16) + (count as u16);
-    if 256 < past {
+    if REGISTERS < past {
         return false;
     }
-    if past <= 172 {
+    if past <= FIRST_TEXT {
         return true;
     }
-    181 < start
+    LAST_TEXT < start
 }
 
 // The data bytes of a set or data message: a start register and 1 to 14 values.
@@ -35,7 +46,7 @@ pub(crate) fn read_run(payload: &[u8]) -> Run
     if payload.len() < 2 {
         return Run::Refused(Refusal::TypeLength);
     }
-    if 15 < payload.len() {
+    if MOST_DATA < payload.len() {
         return Run::Refused(Refusal::TypeLength);
     }
     let start = payload[0];

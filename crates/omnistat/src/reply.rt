@@ -8,12 +8,25 @@ ghost use Rattle.omnistat.specs.Frame.{addressable};
 ghost use Rattle.omnistat.specs.Answer.{replyOf, checkOf, passed, heardReply, onMessage, countedReply};
 use crate::frame::End;
 use crate::frame::Framed;
+use crate::frame::REPLY;
 use crate::group::Group;
 use crate::group::Named;
 use crate::message::Check;
+use crate::message::MOST_VALUES;
 use crate::message::Run;
 use answer::Refusal;
 use answer::Written;
+
+// The types of an acknowledge, a negative and data; a group has its own.
+pub const ACKNOWLEDGE: u8 = 0;
+
+pub const NEGATIVE: u8 = 1;
+
+pub const DATA: u8 = 2;
+// The numbers of thermostats are 01 to 7F.
+const FIRST_NUMBER: u8 = 0x01;
+
+const LAST_NUMBER: u8 = 0x7F;
 
 // What a message to the host is, with the number of the thermostat that sent it. The values are a part of the message, which
 // `values` and `group_values` hand back.
@@ -78,13 +91,13 @@ pub(crate) fn as_group(number: u8, group: Group, payload: &[u8]) -> Reply
 pub(crate) fn as_reply(number: u8, kind: u8, payload: &[u8]) -> Reply
     ensures { λ r. ⌜ replyOf r ≡ onAccepted (heardReply number) (asReply kind (now (payload .entry))) ⌝ }
 {
-    if kind == 0 {
+    if kind == ACKNOWLEDGE {
         return as_acknowledge(number, payload);
     }
-    if kind == 1 {
+    if kind == NEGATIVE {
         return as_negative(number, payload);
     }
-    if kind == 2 {
+    if kind == DATA {
         return as_data(number, payload);
     }
     match crate::group::replied(kind) {
@@ -100,7 +113,7 @@ pub fn read(bytes: &[u8]) -> Reply
     match crate::frame::read(End::Host, bytes) {
         Framed::Refused(r) => Reply::Refused(r),
         Framed::Whole { first, kind, count } => as_reply(
-            first - 0x80,
+            first - REPLY,
             kind,
             crate::frame::part(bytes, 2, count as usize),
         ),
@@ -146,10 +159,10 @@ pub(crate) fn check(kind: u8, payload: &[u8]) -> Check
 pub(crate) fn is_number(number: u8) -> bool
     ensures { λ r. ⌜ r ≡ addressable End.Host number ⌝ }
 {
-    if number < 1 {
+    if number < FIRST_NUMBER {
         return false;
     }
-    number <= 0x7F
+    number <= LAST_NUMBER
 }
 
 // Writes the reply that a type number and data bytes make. The number is that of the thermostat, 01 to 7F.
@@ -163,7 +176,7 @@ pub fn write(number: u8, kind: u8, payload: &[u8], out: &mut [u8]) -> Written
             if !is_number(number) {
                 return Written::Refused(Refusal::Field);
             }
-            crate::frame::write(number + 0x80, kind, payload, out)
+            crate::frame::write(number + REPLY, kind, payload, out)
         }
     }
 }
@@ -174,7 +187,7 @@ pub fn write_acknowledge(number: u8, out: &mut [u8]) -> Written
     ensures { λ r. ⌜ now (out .exit) ≡ outAfter (inRoom (length (now (out .entry))) (write End.Host number acknowledge)) (now (out .entry)) ⌝ }
 {
     let none = [0u8; 1];
-    write(number, 0, &none[..0], out)
+    write(number, ACKNOWLEDGE, &none[..0], out)
 }
 
 // Writes a negative.
@@ -183,7 +196,7 @@ pub fn write_negative(number: u8, out: &mut [u8]) -> Written
     ensures { λ r. ⌜ now (out .exit) ≡ outAfter (inRoom (length (now (out .entry))) (write End.Host number negative)) (now (out .entry)) ⌝ }
 {
     let none = [0u8; 1];
-    write(number, 1, &none[..0], out)
+    write(number, NEGATIVE, &none[..0], out)
 }
 
 // Writes data: the contents of registers from a start, lent as values.
@@ -191,12 +204,12 @@ pub fn write_data(number: u8, start: u8, values: &[u8], out: &mut [u8]) -> Writt
     ensures { λ r. ⌜ writtenOf r ≡ onAccepted length (inRoom (length (now (out .entry))) (write End.Host number (dataFrom start (now (values .entry))))) ⌝ }
     ensures { λ r. ⌜ now (out .exit) ≡ outAfter (inRoom (length (now (out .entry))) (write End.Host number (dataFrom start (now (values .entry))))) (now (out .entry)) ⌝ }
 {
-    if 14 < values.len() {
+    if MOST_VALUES < values.len() {
         return Written::Refused(Refusal::TypeLength);
     }
     let payload = crate::message::run_payload(start, values);
     let n = values.len() + 1;
-    write(number, 2, &payload[..n], out)
+    write(number, DATA, &payload[..n], out)
 }
 
 // Writes a group, with the lent values.

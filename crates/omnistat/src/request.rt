@@ -10,9 +10,17 @@ use crate::frame::Framed;
 use crate::group::Group;
 use crate::group::Named;
 use crate::message::Check;
+use crate::message::MOST_VALUES;
 use crate::message::Run;
 use answer::Refusal;
 use answer::Written;
+
+// The types of a poll and a set; a group poll has that of its group.
+pub const POLL: u8 = 0;
+
+pub const SET: u8 = 1;
+// The most registers that one message polls.
+const MOST_POLLED: u8 = 14;
 
 // What a message to the thermostat is. The first byte is the address that it carries. The values of a set are a part of the message,
 // which `values` hands back.
@@ -35,7 +43,7 @@ pub(crate) fn as_poll(first: u8, payload: &[u8]) -> Request
     if count < 1 {
         return Request::Refused(Refusal::Field);
     }
-    if 14 < count {
+    if MOST_POLLED < count {
         return Request::Refused(Refusal::Field);
     }
     if !crate::message::is_run(start, count) {
@@ -76,10 +84,10 @@ pub(crate) fn as_group_poll(first: u8, group: Group, payload: &[u8]) -> Request
 pub(crate) fn as_request(first: u8, kind: u8, payload: &[u8]) -> Request
     ensures { λ r. ⌜ requestOf r ≡ onAccepted (heardRequest first) (asRequest kind (now (payload .entry))) ⌝ }
 {
-    if kind == 0 {
+    if kind == POLL {
         return as_poll(first, payload);
     }
-    if kind == 1 {
+    if kind == SET {
         return as_set(first, payload);
     }
     match crate::group::polled(kind) {
@@ -151,7 +159,7 @@ pub fn write_poll(address: u8, start: u8, count: u8, out: &mut [u8]) -> Written
     ensures { λ r. ⌜ now (out .exit) ≡ outAfter (inRoom (length (now (out .entry))) (write End.Thermostat address (poll start count))) (now (out .entry)) ⌝ }
 {
     let payload = [start, count];
-    write(address, 0, &payload, out)
+    write(address, POLL, &payload, out)
 }
 
 // Writes a set of registers from a start, with the lent values.
@@ -159,12 +167,12 @@ pub fn write_set(address: u8, start: u8, values: &[u8], out: &mut [u8]) -> Writt
     ensures { λ r. ⌜ writtenOf r ≡ onAccepted length (inRoom (length (now (out .entry))) (write End.Thermostat address (setFrom start (now (values .entry))))) ⌝ }
     ensures { λ r. ⌜ now (out .exit) ≡ outAfter (inRoom (length (now (out .entry))) (write End.Thermostat address (setFrom start (now (values .entry))))) (now (out .entry)) ⌝ }
 {
-    if 14 < values.len() {
+    if MOST_VALUES < values.len() {
         return Written::Refused(Refusal::TypeLength);
     }
     let payload = crate::message::run_payload(start, values);
     let n = values.len() + 1;
-    write(address, 1, &payload[..n], out)
+    write(address, SET, &payload[..n], out)
 }
 
 // Writes a poll of a group.
