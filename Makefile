@@ -15,7 +15,7 @@ test:
 lib: $(LIB)
 
 $(LIB): crates.txt $(shell find crates -name '*.rt' -o -name '*.antt')
-	rt staticlib host
+	@rt staticlib host > target/staticlib.log 2>&1 || { cat target/staticlib.log; exit 1; }
 	@touch $@
 
 ctest: $(TESTS)

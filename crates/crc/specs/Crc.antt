@@ -6,7 +6,7 @@ use lib.Bits.{bitXor}
 use Rattle.crc.specs.Bits.{value, bitString}
 
 -- one turn of Appendix A's loop: shift right, and where a 1 was shifted out, xor x^16+x^15+x^2+1, written lowest power in the highest bit
-unfoldable pub shift : ℕ → ℕ
+abbrev pub shift : ℕ → ℕ
 shift r = bitXor (r / 2) (r % 2 * 0xA001)
 
 -- the register after the bits, each put into its lowest bit before the turn

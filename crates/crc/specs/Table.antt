@@ -14,5 +14,5 @@ entries zero n = []
 entries (suc k) n = turns 8 n ∷ entries k (suc n)
 
 -- the table of 256 words
-unfoldable pub table : List ℕ
+abbrev pub table : List ℕ
 table = entries 256 0

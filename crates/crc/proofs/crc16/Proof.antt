@@ -1,31 +1,29 @@
-use Prim.Native.Nat.{ℕ, _+_, _-_, _≤_, zero-le}
+use Prim.Native.Nat.{ℕ, _-_, _≤_, zero-le}
 use lib.ListN.{length, getD, take}
 use lib.Seq.{take-all}
-use mathlib.Core.List.{List}
-use mathlib.Core.Path.{_≡_, refl, sym, ap, _∙_}
+use mathlib.Core.Path.{_≡_, refl, ap, _∙_}
 use native.Mathlib.Omega.{arith}
 use Rattle.crc.proofs.Laws.Table.{crc-next}
 use Rattle.crc.proofs.crc16.Statement.{statement}
 use Rattle.crc.proofs.crc16.Tie as tie
 use Rattle.crc.specs.Bits.{bitsOf}
-use Rattle.crc.specs.Crc.{crc, feed, shift}
-use Rattle.crc.specs.Table.{table}
+use Rattle.crc.specs.Crc.{crc, feed}
 
 abbrev Inv-loop : tie.InvT-loop
-Inv-loop bytes t r₀ i₀ r i = (t ≡ table) × (i ≤ length bytes) × (r ≡ crc (take i bytes))
+Inv-loop bytes r₀ i₀ r i = (i ≤ length bytes) × (r ≡ crc (take i bytes))
 
 abbrev μ-loop : tie.MeasureT-loop
-μ-loop bytes t r₀ i₀ r i = length bytes - i
+μ-loop bytes r₀ i₀ r i = length bytes - i
 
 loop-holds : tie.Need-loop-holds Inv-loop μ-loop
-unfolding table shift crc feed
-loop-holds c = (refl, zero-le, refl)
+unfolding crc feed
+loop-holds c = (zero-le, refl)
 
 shared-slice-read-step : tie.Need-shared-slice-read-step Inv-loop μ-loop
 shared-slice-read-step c = omega arith
 
 step-requires : tie.Need-step-requires Inv-loop μ-loop
-step-requires c κs = c .before .before .before .loop .inv .0
+step-requires c κs = tt
 
 add-i : tie.Need-add-i Inv-loop μ-loop
 add-i c = omega arith
@@ -35,19 +33,18 @@ loop-less c = omega arith
 
 loop-again : tie.Need-loop-again Inv-loop μ-loop
 loop-again c =
-    let at = c .before .before .before .before in
+    let at = c .before .before .before in
     let s = at .before .before .args .bytes .now in (
-      at .loop .inv .0,
       omega arith,
       c .step .ensures
-          ∙ ap (λ (r : ℕ). feed r (bitsOf 8 (getD s (at .loop .i) 0))) (at .loop .inv .2)
+          ∙ ap (λ (r : ℕ). feed r (bitsOf 8 (getD s (at .loop .i) 0))) (at .loop .inv .1)
           ∙ crc-next s (at .loop .i) (omega arith),
     )
 
 returns : tie.Need-returns Inv-loop μ-loop
 returns c =
     let s = c .before .before .before .args .bytes .now in
-    c .before .loop .inv .2 ∙ ap crc (take-all (c .before .loop .i) s (omega arith))
+    c .before .loop .inv .1 ∙ ap crc (take-all (c .before .loop .i) s (omega arith))
 
 pub crc16-spec : {M : Type 1} → statement M
 crc16-spec =

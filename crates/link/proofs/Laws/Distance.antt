@@ -9,7 +9,7 @@ use lib.ListN.{length, getD, drop, length-drop}
 use lib.Pow.{areBytes}
 use Rattle.answer.specs.Answer.{accepted}
 use Rattle.crc.specs.Bits.{bitString}
-use Rattle.crc.specs.Crc.{crc, feed, shift}
+use Rattle.crc.specs.Crc.{crc, feed}
 use Rattle.crc.specs.Places.{Apart}
 use Rattle.crc.proofs.Laws.Bits.{bitString-length, byte-at, drop-bytes}
 use Rattle.crc.proofs.Laws.Distance.{apart, residue, same-bytes}
@@ -48,5 +48,5 @@ frames-apart s t f g bs bt es et equal other =
     ∙ sym (from-start t (whole t g et .start))))
 
 pub condition-3 : Condition-3
-unfolding readFrame readBody crc feed shift
+unfolding readFrame readBody crc feed
 condition-3 = record { apart = frames-apart; first-accepted = refl; second-accepted = refl; sharp = refl }
