@@ -15,6 +15,7 @@ test:
 lib: $(LIB)
 
 $(LIB): crates.txt $(shell find crates -name '*.rt' -o -name '*.antt')
+	@mkdir -p target
 	@rt staticlib host > target/staticlib.log 2>&1 || { cat target/staticlib.log; exit 1; }
 	@touch $@
 
