@@ -1,0 +1,57 @@
+use Rattle.message.proofs.Laws.Decided.{decided}
+use borrow.Author.Needs.{needs}
+use Rattle.message.proofs.command.command_listed.Statement.{statement}
+use Rattle.message.proofs.command.command_listed.Tie as tie
+use Rattle.message.proofs.command.command_listed.Reads as reads
+use Rattle.message.proofs.command.command_listed.Lts as lts
+use Rattle.message.proofs.command.duration_listed.Reads as duration-listed-reads
+
+-- src/command.rt:66:9
+returns : tie.Need-returns
+returns c = search decided
+
+-- src/command.rt:69:9
+returns-2 : tie.Need-returns-2
+returns-2 c = search decided
+
+-- src/command.rt:72:9
+returns-3 : tie.Need-returns-3
+returns-3 c = search decided
+
+-- src/command.rt:75:9
+duration-listed-requires : tie.Need-duration-listed-requires
+duration-listed-requires c κs = search needs
+
+-- src/command.rt:75:9
+returns-4 : tie.Need-returns-4
+returns-4 c = search decided
+
+-- src/command.rt:78:9
+returns-5 : tie.Need-returns-5
+returns-5 c = search decided
+
+-- src/command.rt:81:9
+returns-6 : tie.Need-returns-6
+returns-6 c = search decided
+
+-- src/command.rt:84:9
+returns-7 : tie.Need-returns-7
+returns-7 c = search decided
+
+-- src/command.rt:62:1
+returns-8 : tie.Need-returns-8
+returns-8 c = search decided
+
+pub command-listed-spec : {M : Type 1} → statement M
+command-listed-spec =
+    tie.close
+    (tie.spec
+    returns
+    returns-2
+    returns-3
+    duration-listed-requires
+    returns-4
+    returns-5
+    returns-6
+    returns-7
+    returns-8)

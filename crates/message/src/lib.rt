@@ -1,0 +1,5 @@
+// Omni-Link messages (document 01, "Omni-Link messages"): typed reading and writing above frames.
+pub mod command;
+pub mod items;
+pub mod log;
+pub mod message;
