@@ -49,6 +49,19 @@ uint64_t omnilink_frame_write(uint8_t type, const uint8_t *data, size_t len, uin
 
 /* Cost */
 
+/* The tally: the exact sum of the accepted cost words, in millionths. It starts at 0. */
+struct tally {
+    uint64_t total;
+};
+
+/* The value of a cost word (registers 170 and 171, high byte first). Refused: GATEWAY_COST_WORD.
+   Accepted: the value in millionths (56). */
+uint64_t cost_millionths(uint16_t word);
+
+/* Adds a cost word to a tally. Refused, with the tally unchanged: GATEWAY_COST_WORD, then GATEWAY_TOTAL.
+   Accepted: nothing. */
+uint64_t tally_add(struct tally *t, uint16_t word);
+
 /* X-10 patterns */
 
 /* The capture listing */

@@ -1,2 +1,3 @@
 // The C interface: a thin call over each public operation. include/gateway.h declares every function here.
+mod cost;
 mod omnilink;

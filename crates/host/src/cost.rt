@@ -1,0 +1,40 @@
+// Document 01, "Cost": cost words and the tally for C.
+ghost use mathlib.Core.Path.{_≡_};
+ghost use mathlib.Core.List.{[], _∷_};
+ghost use Rattle.answer.specs.Answer.{onAccepted};
+ghost use Rattle.answer.specs.Packed.{packed, field};
+ghost use Rattle.tally.specs.Cost.{cost};
+ghost use Rattle.tally.specs.Total.{nextTotal, totalAfter, addedOf};
+use tally::Added;
+use tally::Cost;
+use tally::Tally;
+
+// The value of a cost word in millionths.
+#[no_mangle]
+pub extern "C" fn cost_millionths(word: u16) -> u64
+    ensures { λ n. ⌜ n ≡ packed (onAccepted (λ v. field 56 v ∷ []) (cost word)) ⌝ }
+{
+    match tally::convert(word) {
+        Cost::Millionths(v) => answer::pack_56_bits(v),
+        Cost::Refused(r) => answer::pack_refusal(r),
+    }
+}
+
+// The packed answer of an addition.
+fn pack_added(added: Added) -> u64
+    ensures { λ n. ⌜ n ≡ packed (onAccepted (λ total. []) (addedOf added)) ⌝ }
+{
+    match added {
+        Added::Total(_) => answer::pack_nothing(),
+        Added::Refused(r) => answer::pack_refusal(r),
+    }
+}
+
+// Adds a cost word to the lent tally.
+#[no_mangle]
+pub extern "C" fn tally_add(t: &mut Tally, word: u16) -> u64
+    ensures { λ n. ⌜ (n ≡ packed (onAccepted (λ total. []) (nextTotal (now (t .entry) .total) word)))
+        × (now (t .exit) .total ≡ totalAfter (now (t .entry) .total) word) ⌝ }
+{
+    pack_added(tally::add(t, word))
+}

@@ -1,0 +1,3 @@
+pub mod Cost
+pub mod Total
+pub mod Run

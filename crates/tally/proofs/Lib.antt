@@ -1,0 +1,2 @@
+-- Laws on the cost word, the total and a run of words.
+pub mod Laws
