@@ -1,1 +1,4 @@
+pub mod Checked
 pub mod Decided
+pub mod Kinds
+pub mod Lists

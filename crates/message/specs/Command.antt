@@ -21,7 +21,7 @@ abbrev pub durationOf : ℕ → Duration
 durationOf p = cond (eqb p 0) None (cond (ltb p 100) (Seconds p) (cond (ltb p 200) (Minutes (p - 100)) (Hours (p - 200))))
 
 -- 2 and 3: P1 0, any P2; the others P2 at least 1. 0 and 1: a duration. 9: P1 0-100. 10 and 11: P1 0. 12: any P1. No others
-abbrev pub commandListed : ℕ → ℕ → ℕ → Bool
+unfoldable pub commandListed : ℕ → ℕ → ℕ → Bool
 commandListed number p1 p2 =
     cond (eqb number 2) (eqb p1 0)
     (cond (eqb number 3) (eqb p1 0)
@@ -33,7 +33,7 @@ commandListed number p1 p2 =
     (eqb number 12)))))))
 
 -- commands 0 (off), 1 (on), 2, 3, 9, 10, 11 and 12, in document 000's words
-abbrev pub commandOf : ℕ → ℕ → ℕ → Command
+unfoldable pub commandOf : ℕ → ℕ → ℕ → Command
 commandOf number p1 p2 =
     cond (eqb number 0) (Off (durationOf p1) p2)
     (cond (eqb number 1) (On (durationOf p1) p2)
@@ -44,12 +44,14 @@ commandOf number p1 p2 =
     (cond (eqb number 11) (Increment p2)
     (SetCounter p1 p2)))))))
 
--- command: L=5; command, P1, P2 high, P2 low; else 7; outside the list 8
+-- outside the list 8
+unfoldable pub checkedCommand : ℕ → ℕ → ℕ → Outcome Command
+checkedCommand number p1 p2 = refuseIf (not (commandListed number p1 p2)) 8 (accepted (commandOf number p1 p2))
+
+-- command: L=5; command, P1, P2 high, P2 low
 unfoldable pub readCommand : List ℕ → Outcome Command
 readCommand d =
-    refuseIf (not (eqb (length d) 4)) 7
-    (refuseIf (not (commandListed (getD d 0 0) (getD d 1 0) (getD d 2 0 * 256 + getD d 3 0))) 8
-    (accepted (commandOf (getD d 0 0) (getD d 1 0) (getD d 2 0 * 256 + getD d 3 0))))
+    refuseIf (not (eqb (length d) 4)) 7 (checkedCommand (getD d 0 0) (getD d 1 0) (getD d 2 0 * 256 + getD d 3 0))
 
 abbrev pub commandRead : CommandRead → Outcome Command
 commandRead (Accepted c) = accepted c

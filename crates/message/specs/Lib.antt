@@ -1,2 +1,4 @@
 pub mod Command
 pub mod Items
+pub mod Log
+pub mod Message

@@ -2,7 +2,7 @@
 use answer::Refusal;
 ghost use mathlib.Core.Path.{_≡_};
 ghost use Prim.Native.Nat.{_+_, _*_};
-ghost use Rattle.message.specs.Command.{durationListed, durationOf, commandListed, commandOf, commandRead, readCommand};
+ghost use Rattle.message.specs.Command.{durationListed, durationOf, commandListed, commandOf, commandRead, checkedCommand, readCommand};
 
 // How long a unit stays off or on, as P1: 0; 1 to 99; 101 to 199; 201 to 218.
 pub enum Duration {
@@ -133,6 +133,16 @@ pub(crate) fn word(hi: u8, lo: u8) -> u16
     hi as u16 * 256 + lo as u16
 }
 
+// The command of a number and its parameters.
+fn checked(number: u8, p1: u8, p2: u16) -> CommandRead
+    ensures { λ r. ⌜ commandRead r ≡ checkedCommand number p1 p2 ⌝ }
+{
+    if command_listed(number, p1, p2) {
+        return CommandRead::Accepted(command_of(number, p1, p2));
+    }
+    CommandRead::Refused(Refusal::Field)
+}
+
 // The command that data bytes carry.
 pub fn read(data: &[u8]) -> CommandRead
     ensures { λ r. ⌜ commandRead r ≡ readCommand (now («data» .entry)) ⌝ }
@@ -140,11 +150,5 @@ pub fn read(data: &[u8]) -> CommandRead
     if data.len() != 4 {
         return CommandRead::Refused(Refusal::TypeLength);
     }
-    let number = data[0];
-    let p1 = data[1];
-    let p2 = word(data[2], data[3]);
-    if command_listed(number, p1, p2) {
-        return CommandRead::Accepted(command_of(number, p1, p2));
-    }
-    CommandRead::Refused(Refusal::Field)
+    checked(data[0], data[1], word(data[2], data[3]))
 }

@@ -1,3 +1,4 @@
+use Rattle.message.specs.Command.{commandOf}
 use Rattle.message.proofs.Laws.Decided.{decided}
 use borrow.Author.Needs.{needs}
 use Rattle.message.proofs.command.command_of.Statement.{statement}
@@ -12,6 +13,7 @@ duration-of-requires c κs = search needs
 
 -- src/command.rt:94:9
 returns : tie.Need-returns
+unfolding commandOf
 returns c = search decided
 
 -- src/command.rt:101:23
@@ -20,30 +22,37 @@ duration-of-requires-2 c κs = search needs
 
 -- src/command.rt:100:9
 returns-2 : tie.Need-returns-2
+unfolding commandOf
 returns-2 c = search decided
 
 -- src/command.rt:106:9
 returns-3 : tie.Need-returns-3
+unfolding commandOf
 returns-3 c = search decided
 
 -- src/command.rt:109:9
 returns-4 : tie.Need-returns-4
+unfolding commandOf
 returns-4 c = search decided
 
 -- src/command.rt:112:9
 returns-5 : tie.Need-returns-5
+unfolding commandOf
 returns-5 c = search decided
 
 -- src/command.rt:118:9
 returns-6 : tie.Need-returns-6
+unfolding commandOf
 returns-6 c = search decided
 
 -- src/command.rt:121:9
 returns-7 : tie.Need-returns-7
+unfolding commandOf
 returns-7 c = search decided
 
 -- src/command.rt:90:1
 returns-8 : tie.Need-returns-8
+unfolding commandOf
 returns-8 c = search decided
 
 pub command-of-spec : {M : Type 1} → statement M

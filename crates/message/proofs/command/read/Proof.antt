@@ -1,64 +1,67 @@
+use mathlib.Core.Path.{refl}
+use Prim.Native.Nat.{_+_, _*_}
+use native.Mathlib.Omega.{arith}
+use borrow.Author.Tests.{eq-eqb}
+use Rattle.message.proofs.Laws.Checked.{passes}
+use mathlib.Core.Path.{sym, ap, _∙_}
+use lib.ListN.{getD, length}
+use Rattle.message.specs.Command.{checkedCommand, readCommand}
 use Rattle.message.proofs.Laws.Decided.{decided}
 use borrow.Author.Needs.{needs}
 use Rattle.message.proofs.command.read.Statement.{statement}
 use Rattle.message.proofs.command.read.Tie as tie
 use Rattle.message.proofs.command.read.Reads as reads
 use Rattle.message.proofs.command.read.Lts as lts
-use Rattle.message.proofs.command.command_listed.Reads as command-listed-reads
-use Rattle.message.proofs.command.command_of.Reads as command-of-reads
+use Rattle.message.proofs.command.checked.Reads as checked-reads
 use Rattle.message.proofs.command.word.Reads as word-reads
 
--- src/command.rt:141:9
+-- src/command.rt:151:9
 returns : tie.Need-returns
+unfolding readCommand
 returns c = search decided
 
--- src/command.rt:143:18
-shared-slice-read-number : tie.Need-shared-slice-read-number
-shared-slice-read-number c = search needs
+-- src/command.rt:153:13
+shared-slice-read-checked : tie.Need-shared-slice-read-checked
+shared-slice-read-checked c = search needs
 
--- src/command.rt:144:14
-shared-slice-read-p1 : tie.Need-shared-slice-read-p1
-shared-slice-read-p1 c = search needs
+-- src/command.rt:153:22
+shared-slice-read-checked-2 : tie.Need-shared-slice-read-checked-2
+shared-slice-read-checked-2 c = search needs
 
--- src/command.rt:145:19
+-- src/command.rt:153:36
 shared-slice-read-word : tie.Need-shared-slice-read-word
 shared-slice-read-word c = search needs
 
--- src/command.rt:145:28
+-- src/command.rt:153:45
 shared-slice-read-word-2 : tie.Need-shared-slice-read-word-2
 shared-slice-read-word-2 c = search needs
 
--- src/command.rt:145:9
+-- src/command.rt:153:31
 word-requires : tie.Need-word-requires
 word-requires c κs = search needs
 
--- src/command.rt:146:8
-command-listed-requires : tie.Need-command-listed-requires
-command-listed-requires c κs = search needs
+-- src/command.rt:153:5
+checked-requires : tie.Need-checked-requires
+checked-requires c κs = search needs
 
--- src/command.rt:147:38
-command-of-requires : tie.Need-command-of-requires
-command-of-requires c κs = search needs
-
--- src/command.rt:147:9
+-- src/command.rt:147:1
 returns-2 : tie.Need-returns-2
-returns-2 c = search decided
-
--- src/command.rt:137:1
-returns-3 : tie.Need-returns-3
-returns-3 c = search decided
+unfolding readCommand
+returns-2 c =
+    let d = c .before .before .before .before .before .before .before .before .args .«data» .now in
+    c .checked .ensures
+    ∙ ap (checkedCommand (getD d 0 0) (getD d 1 0)) (c .before .word .ensures)
+    ∙ passes 7 (checkedCommand (getD d 0 0) (getD d 1 0) (getD d 2 0 * 256 + getD d 3 0)) refl (eq-eqb (length d) 4 (omega arith))
 
 pub read-spec : {M : Type 1} → statement M
 read-spec =
     tie.close
     (tie.spec
     returns
-    shared-slice-read-number
-    shared-slice-read-p1
+    shared-slice-read-checked
+    shared-slice-read-checked-2
     shared-slice-read-word
     shared-slice-read-word-2
     word-requires
-    command-listed-requires
-    command-of-requires
-    returns-2
-    returns-3)
+    checked-requires
+    returns-2)

@@ -1,3 +1,5 @@
+use Prim.Native.Nat.{_/_, _%_}
+use lib.Dec.{eqb}
 use Rattle.message.proofs.Laws.Decided.{decided}
 use borrow.Author.Needs.{needs}
 use Rattle.message.proofs.items.zone_of.Statement.{statement}
@@ -22,7 +24,14 @@ arming-of-requires c κs = search needs
 
 -- src/items.rt:86:1
 returns : tie.Need-returns
-returns c = search decided
+returns c =
+    λ i. record {
+      condition = c .before .before .condition-of .ensures i;
+      «latched_alarm» = c .before .latched-of .ensures i;
+      arming = c .arming-of .ensures i;
+      «unacknowledged_trouble» = eqb (c .before .before .before .args .status / 64 % 2) 1;
+      «loop_reading» = c .before .before .before .args .reading;
+    }
 
 pub zone-of-spec : {M : Type 1} → statement M
 zone-of-spec =
