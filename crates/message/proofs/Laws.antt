@@ -1,4 +1,5 @@
 pub mod Checked
 pub mod Decided
+pub mod Framed
 pub mod Kinds
 pub mod Lists

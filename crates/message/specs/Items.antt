@@ -46,11 +46,15 @@ zoneListed s = cond (eqb (s % 4) 3) false (cond (eqb (s / 4 % 4) 3) false (ltb s
 abbrev pub textOf : ℕ → TextMessage
 textOf bits = record { displayed = eqb (bits % 2) 1; «not_acknowledged» = eqb (bits / 2 % 2) 1 }
 
+-- what each pair of bytes stands for
+abbrev pub pairs : {A : Type 0} → (ℕ → ℕ → A) → List ℕ → List A
+pairs make [] = []
+pairs make (a ∷ []) = []
+pairs make (a ∷ b ∷ d) = make a b ∷ pairs make d
+
 -- pairs of status and loop reading
 abbrev pub zones : List ℕ → List Zone
-zones [] = []
-zones (s ∷ []) = []
-zones (s ∷ r ∷ d) = zoneOf s r ∷ zones d
+zones d = pairs zoneOf d
 
 abbrev pub zonesListed : List ℕ → Bool
 zonesListed [] = true
@@ -58,12 +62,16 @@ zonesListed (s ∷ []) = true
 zonesListed (s ∷ r ∷ d) = cond (zoneListed s) (zonesListed d) false
 
 -- events, high byte first
-abbrev pub words : List ℕ → List ℕ
-words [] = []
-words (hi ∷ []) = []
-words (hi ∷ lo ∷ d) = (hi * 256 + lo) ∷ words d
+abbrev pub wordOf : ℕ → ℕ → ℕ
+wordOf hi lo = hi * 256 + lo
 
--- four messages a byte, the lowest-numbered in the two high bits
+abbrev pub words : List ℕ → List ℕ
+words d = pairs wordOf d
+
+-- four messages a byte, the lowest-numbered in the two high bits: the bits of message k of the four
+abbrev pub twoBits : ℕ → ℕ → ℕ
+twoBits b k = cond (eqb k 0) (b / 64) (cond (eqb k 1) (b / 16 % 4) (cond (eqb k 2) (b / 4 % 4) (b % 4)))
+
 abbrev pub texts : List ℕ → List TextMessage
 texts [] = []
-texts (b ∷ d) = textOf (b / 64) ∷ textOf (b / 16 % 4) ∷ textOf (b / 4 % 4) ∷ textOf (b % 4) ∷ texts d
+texts (b ∷ d) = textOf (twoBits b 0) ∷ textOf (twoBits b 1) ∷ textOf (twoBits b 2) ∷ textOf (twoBits b 3) ∷ texts d

@@ -1,4 +1,5 @@
 pub mod Command
+pub mod Item
 pub mod Items
 pub mod Log
 pub mod Message

@@ -297,3 +297,24 @@ pub fn of_data(kind: u8, data: &[u8]) -> MessageRead
     }
     MessageRead::Refused(Refusal::Unknown)
 }
+
+// Reads a byte string as a whole message: the frame reader's answers, then 6, 7, 8.
+pub fn read(bytes: &[u8]) -> MessageRead
+    ensures { λ r. ⌜ messageRead r ≡ onAccepted counted (readMessage (now (bytes .entry))) ⌝ }
+{
+    match link::frame::read(bytes) {
+        FrameRead::Accepted { kind, count } => of_data(kind, link::frame::data(bytes, count)),
+        FrameRead::Refused(r) => MessageRead::Refused(r),
+    }
+}
+
+// Writes the message of a type and data bytes: 6, 7, 8, then 9.
+pub fn write(kind: u8, data: &[u8], out: &mut [u8]) -> Written
+    ensures { λ r. ⌜ writtenOf r ≡ onAccepted length (inRoom (length (now (out .entry))) (writeMessage kind (now («data» .entry)))) ⌝ }
+    ensures { λ _. ⌜ now (out .exit) ≡ outAfter (inRoom (length (now (out .entry))) (writeMessage kind (now («data» .entry)))) (now (out .entry)) ⌝ }
+{
+    match of_data(kind, data) {
+        MessageRead::Accepted(_) => link::frame::write(kind, data, out),
+        MessageRead::Refused(r) => Written::Refused(r),
+    }
+}

@@ -8,12 +8,12 @@ use lib.Dec.{eqb}
 use lib.ListN.{length, getD, drop, length-drop}
 use borrow.Author.Tests.{eq-eqb, ne-eqb, le-ltb}
 use Rattle.answer.specs.Answer.{Outcome, refused, accepted, refuseIf, onAccepted}
-use Rattle.message.specs.Items.{zones, zonesListed, texts}
+use Rattle.message.specs.Items.{zoneOf, zones, zonesListed, texts}
 use Rattle.message.specs.Message.{zoneStatus, messageStatus, statusLength, plainListed, readPlain, readZoneStatus, readMessageStatus, messageOf, counted}
 use Rattle.message.specs.declared.message.Message.{Message as Counted}
 use Rattle.message.specs.declared.message.Message.the-variants as C
 use Rattle.message.proofs.Laws.Checked.{refuses, passes, behind-check}
-use Rattle.message.proofs.Laws.Lists.{zones-length, texts-length}
+use Rattle.message.proofs.Laws.Lists.{pairs-length, texts-length}
 
 -- zone status, once the length is right
 module _ (d : List ℕ) (even : length d % 2 ≡ 0) (some : length d ≡ 0 → ⊥) (few : length d ≤ 64) where
@@ -27,7 +27,7 @@ module _ (d : List ℕ) (even : length d % 2 ≡ 0) (some : length d ≡ 0 → �
 
     pub zones-accepted : t ≡ true → accepted (C.ZoneStatus (length d / 2)) ≡ onAccepted counted (readZoneStatus d)
     zones-accepted e =
-        ap (λ (n : ℕ). accepted (C.ZoneStatus n)) (sym (zones-length d))
+        ap (λ (n : ℕ). accepted (C.ZoneStatus n)) (sym (pairs-length zoneOf d))
         ∙ ap (onAccepted counted) (passes 8 (accepted (zoneStatus (zones d))) is e ∙ sym by-zones)
 
 -- message status, at a right length

@@ -1,5 +1,5 @@
 -- The lists that data bytes carry: their lengths, their items, and the test on their zones. Assumes nothing.
-use mathlib.Core.Path.{_≡_, refl, sym, ap, _∙_}
+use mathlib.Core.Path.{_≡_, refl, sym, ap, ap₂, _∙_}
 use mathlib.Core.Bool.{Bool, true, false, cond}
 use mathlib.Core.List.{List, [], _∷_}
 use Prim.Native.Nat.{ℕ, zero, suc, _+_, _*_, _/_, _%_, _<_, _≤_}
@@ -7,17 +7,14 @@ use native.Mathlib.Numerals.{add-two}
 use native.Mathlib.Omega.{arith}
 use lib.ListN.{length, getD, drop, drop-of-length-le}
 use lib.Seq.{drop-cons}
-use Rattle.message.specs.Items.{zoneListed, zones, zonesListed, words, texts}
+use Rattle.message.specs.Items.{zoneListed, zonesListed, pairs, texts, textOf, twoBits}
+use Rattle.message.specs.Item.{itemAt}
+use Rattle.answer.specs.Answer.{refused, accepted}
 
-pub zones-length : (d : List ℕ) → length (zones d) ≡ length d / 2
-zones-length [] = refl
-zones-length (s ∷ []) = refl
-zones-length (s ∷ r ∷ d) = let ih : length (zones d) ≡ length d / 2 = zones-length d in omega arith
-
-pub words-length : (d : List ℕ) → length (words d) ≡ length d / 2
-words-length [] = refl
-words-length (s ∷ []) = refl
-words-length (s ∷ r ∷ d) = let ih : length (words d) ≡ length d / 2 = words-length d in omega arith
+pub pairs-length : {A : Type 0} (make : ℕ → ℕ → A) (d : List ℕ) → length (pairs make d) ≡ length d / 2
+pairs-length make [] = refl
+pairs-length make (a ∷ []) = refl
+pairs-length make (a ∷ b ∷ d) = let ih : length (pairs make d) ≡ length d / 2 = pairs-length make d in omega arith
 
 pub texts-length : (d : List ℕ) → length (texts d) ≡ 4 * length d
 texts-length [] = refl
@@ -33,3 +30,40 @@ zones-step d i h =
 -- and ends where the bytes end
 pub zones-end : (d : List ℕ) (i : ℕ) → length d ≤ i → zonesListed (drop i d) ≡ true
 zones-end d i h = ap zonesListed (drop-of-length-le d h)
+
+-- ---- items
+
+module _ {A : Type 0} (make : ℕ → ℕ → A) where
+  pub past-pairs : (d : List ℕ) (i : ℕ) → length d / 2 ≤ i → itemAt (pairs make d) i ≡ refused 8
+  past-pairs [] i h = refl
+  past-pairs (a ∷ []) i h = refl
+  past-pairs (a ∷ b ∷ d) zero h = let z : ⊥ = omega arith in absurd z
+  past-pairs (a ∷ b ∷ d) (suc i) h = past-pairs d i (omega arith)
+
+  pub pair-item : (d : List ℕ) (i : ℕ) → i < length d / 2 → itemAt (pairs make d) i ≡ accepted (make (getD d (2 * i) 0) (getD d (2 * i + 1) 0))
+  pair-item [] i h = let z : ⊥ = omega arith in absurd z
+  pair-item (a ∷ []) i h = let z : ⊥ = omega arith in absurd z
+  pair-item (a ∷ b ∷ d) zero h = refl
+  pair-item (a ∷ b ∷ d) (suc i) h =
+      let x : suc (suc (2 * i)) ≡ 2 * suc i = omega arith in
+      let y : suc (suc (2 * i + 1)) ≡ 2 * suc i + 1 = omega arith in
+      pair-item d i (omega arith) ∙ ap₂ (λ (m n : ℕ). accepted (make (getD (a ∷ b ∷ d) m 0) (getD (a ∷ b ∷ d) n 0))) x y
+
+pub past-texts : (d : List ℕ) (i : ℕ) → length d ≤ i / 4 → itemAt (texts d) i ≡ refused 8
+past-texts [] i h = refl
+past-texts (b ∷ d) zero h = let z : ⊥ = omega arith in absurd z
+past-texts (b ∷ d) (suc zero) h = let z : ⊥ = omega arith in absurd z
+past-texts (b ∷ d) (suc (suc zero)) h = let z : ⊥ = omega arith in absurd z
+past-texts (b ∷ d) (suc (suc (suc zero))) h = let z : ⊥ = omega arith in absurd z
+past-texts (b ∷ d) (suc (suc (suc (suc i)))) h = past-texts d i (omega arith)
+
+pub text-item : (d : List ℕ) (i : ℕ) → i / 4 < length d → itemAt (texts d) i ≡ accepted (textOf (twoBits (getD d (i / 4) 0) (i % 4)))
+text-item [] i h = let z : ⊥ = omega arith in absurd z
+text-item (b ∷ d) zero h = refl
+text-item (b ∷ d) (suc zero) h = refl
+text-item (b ∷ d) (suc (suc zero)) h = refl
+text-item (b ∷ d) (suc (suc (suc zero))) h = refl
+text-item (b ∷ d) (suc (suc (suc (suc i)))) h =
+    let q : suc (i / 4) ≡ suc (suc (suc (suc i))) / 4 = omega arith in
+    let m : i % 4 ≡ suc (suc (suc (suc i))) % 4 = omega arith in
+    text-item d i (omega arith) ∙ ap₂ (λ (x y : ℕ). accepted (textOf (twoBits (getD (b ∷ d) x 0) y))) q m

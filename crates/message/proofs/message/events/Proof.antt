@@ -1,9 +1,10 @@
+use Rattle.message.specs.Items.{wordOf}
 use Prim.Native.Nat.{_%_}
 use native.Mathlib.Omega.{arith}
 use borrow.Author.Tests.{eq-eqb, le-ltb}
 use lib.ListN.{length}
 use Rattle.message.specs.Message.{readEvents}
-use Rattle.message.proofs.Laws.Lists.{words-length}
+use Rattle.message.proofs.Laws.Lists.{pairs-length}
 use Rattle.message.proofs.Laws.Decided.{decided}
 use borrow.Author.Needs.{needs}
 use Rattle.message.proofs.message.events.Statement.{statement}
@@ -30,7 +31,7 @@ returns-3 : tie.Need-returns-3
 unfolding readEvents
 returns-3 c =
     let d = c .before .before .args .«data» .now in
-    simp (eq-eqb (length d % 2) 0 (omega arith), le-ltb 64 (length d) (omega arith), words-length d)
+    simp (eq-eqb (length d % 2) 0 (omega arith), le-ltb 64 (length d) (omega arith), pairs-length wordOf d)
 
 pub events-spec : {M : Type 1} → statement M
 events-spec = tie.close (tie.spec returns returns-2 cast-t7 returns-3)

@@ -118,8 +118,8 @@ returns-9 c =
     let at = c .before .before .before .before .before .before .before in
     let a = at .before .before .before .args in
     sym (ap (onAccepted counted)
-      (unknown (a .kind) (a .«data» .now) (sym (at .before .plain-listed .ensures) ∙ at .if1 .left)
-      (c .before .before .before .before .before .before .if2 .left) (c .before .before .before .before .before .if3 .left) (c .before .before .before .before .if4 .left) (c .before .before .before .if5 .left) (c .before .before .if6 .left) (c .before .if7 .left) (c .if8 .left)))
+    (unknown (a .kind) (a .«data» .now) (sym (at .before .plain-listed .ensures) ∙ at .if1 .left)
+    (c .before .before .before .before .before .before .if2 .left) (c .before .before .before .before .before .if3 .left) (c .before .before .before .before .if4 .left) (c .before .before .before .if5 .left) (c .before .before .if6 .left) (c .before .if7 .left) (c .if8 .left)))
 
 pub of-data-spec : {M : Type 1} → statement M
 of-data-spec =

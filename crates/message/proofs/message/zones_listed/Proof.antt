@@ -43,12 +43,13 @@ loop-again : tie.Need-loop-again Inv-loop μ-loop
 loop-again c =
     let at = c .before .before .before .before in
     let d = at .before .before .args .«data» .now in
-    let listed : zoneListed (getD d (at .loop .i) 0) ≡ true = sym (c .before .zone-listed .ensures) ∙ c .if1 .taken in
-    (omega arith,
-    omega arith,
-    at .loop .inv .2
-    ∙ zones-step d (at .loop .i) (omega arith)
-    ∙ ap (λ (t : Bool). cond t (zonesListed (drop (at .loop .i + 2) d)) false) listed)
+    let listed : zoneListed (getD d (at .loop .i) 0) ≡ true = sym (c .before .zone-listed .ensures) ∙ c .if1 .taken in (
+      omega arith,
+      omega arith,
+      at .loop .inv .2
+          ∙ zones-step d (at .loop .i) (omega arith)
+          ∙ ap (λ (t : Bool). cond t (zonesListed (drop (at .loop .i + 2) d)) false) listed,
+    )
 
 -- src/message.rt:182:13
 returns : tie.Need-returns Inv-loop μ-loop
@@ -57,8 +58,8 @@ returns c =
     let d = at .before .before .args .«data» .now in
     let not-listed : zoneListed (getD d (at .loop .i) 0) ≡ false = sym (c .before .zone-listed .ensures) ∙ c .if1 .left in
     sym (at .loop .inv .2
-      ∙ zones-step d (at .loop .i) (omega arith)
-      ∙ ap (λ (t : Bool). cond t (zonesListed (drop (at .loop .i + 2) d)) false) not-listed)
+    ∙ zones-step d (at .loop .i) (omega arith)
+    ∙ ap (λ (t : Bool). cond t (zonesListed (drop (at .loop .i + 2) d)) false) not-listed)
 
 -- src/message.rt:173:1
 returns-2 : tie.Need-returns-2 Inv-loop μ-loop
