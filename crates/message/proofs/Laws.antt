@@ -1,5 +1,6 @@
 pub mod Checked
 pub mod Decided
 pub mod Framed
+pub mod Item
 pub mod Kinds
 pub mod Lists
