@@ -3,3 +3,4 @@ pub mod Item
 pub mod Items
 pub mod Log
 pub mod Message
+pub mod Typed

@@ -4,3 +4,4 @@ pub mod item;
 pub mod items;
 pub mod log;
 pub mod message;
+pub mod typed;

@@ -260,8 +260,8 @@ module _ (s : List ℕ) (k n : ℕ) (h : messageHeader s ≡ accepted (record { 
     unfolding messageOf plainListed logMessage
     log-found is =
         found (logItem i) s k n h _ (λ m e.
-          let w = was-accepted (λ x. fixed (F.LogEntry x)) (readLog (dataPart s n)) m (sym e ∙ ap (λ (x : ℕ). messageOf x (dataPart s n)) is) in
-          ap (logItem i) (w .2) ∙ sym (ap (λ (o : Outcome LogEntry). andThen o (λ x. logField x i)) (w .1)))
+        let w = was-accepted (λ x. fixed (F.LogEntry x)) (readLog (dataPart s n)) m (sym e ∙ ap (λ (x : ℕ). messageOf x (dataPart s n)) is) in
+        ap (logItem i) (w .2) ∙ sym (ap (λ (o : Outcome LogEntry). andThen o (λ x. logField x i)) (w .1)))
 
     pub not-log : (k ≡ 0x0E → ⊥) → andThen (readMessage s) (logItem i) ≡ refused 6
     unfolding d
@@ -277,8 +277,8 @@ module _ (s : List ℕ) (k n : ℕ) (h : messageHeader s ≡ accepted (record { 
   unfolding messageOf plainListed commandMessage
   command-found is =
       found commandItem s k n h _ (λ m e.
-        let w = was-accepted (λ x. fixed (F.Command x)) (readCommand (dataPart s n)) m (sym e ∙ ap (λ (x : ℕ). messageOf x (dataPart s n)) is) in
-        ap commandItem (w .2) ∙ sym (w .1))
+      let w = was-accepted (λ x. fixed (F.Command x)) (readCommand (dataPart s n)) m (sym e ∙ ap (λ (x : ℕ). messageOf x (dataPart s n)) is) in
+      ap commandItem (w .2) ∙ sym (w .1))
 
   pub not-command : (k ≡ 0x0F → ⊥) → andThen (readMessage s) commandItem ≡ refused 6
   unfolding d

@@ -34,7 +34,7 @@ returns c =
     let at = c .before .before in
     c .log-field .ensures
     ∙ ap (λ (o : Outcome LogEntry). andThen o (λ e. logField e (at .before .before .before .before .args .i)))
-      (sym (ap logRead (at .e .given .1)) ∙ at .before .before .read .ensures)
+    (sym (ap logRead (at .e .given .1)) ∙ at .before .before .read .ensures)
 
 -- src/item.rt:120:1
 returns-2 : tie.Need-returns-2

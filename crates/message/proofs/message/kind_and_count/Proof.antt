@@ -52,8 +52,8 @@ returns c =
     let k = at .kind .given .0 .0 in
     let n = at .kind .given .0 .1 .0 in
     sym (header-read s k n (sym (ap outcomeOf (at .kind .given .1)) ∙ at .before .before .read .ensures) (c .enum-told .given .0 .0)
-      (sym (ap messageRead (c .enum-told .given .1)) ∙ c .before .before .of-data .ensures
-      ∙ ap (λ (x : List ℕ). onAccepted counted (messageOf k x)) (c .before .before .before .«data» .ensures)))
+    (sym (ap messageRead (c .enum-told .given .1)) ∙ c .before .before .of-data .ensures
+    ∙ ap (λ (x : List ℕ). onAccepted counted (messageOf k x)) (c .before .before .before .«data» .ensures)))
 
 -- src/message.rt:324:1
 returns-2 : tie.Need-returns-2
@@ -63,8 +63,8 @@ returns-2 c =
     let k = at .kind .given .0 .0 in
     let n = at .kind .given .0 .1 .0 in
     sym (header-refused s k n (sym (ap outcomeOf (at .kind .given .1)) ∙ at .before .before .read .ensures) _
-      (sym (ap messageRead (c .before .r .given .1)) ∙ c .before .before .before .of-data .ensures
-      ∙ ap (λ (x : List ℕ). onAccepted counted (messageOf k x)) (c .before .before .before .before .«data» .ensures)))
+    (sym (ap messageRead (c .before .r .given .1)) ∙ c .before .before .before .of-data .ensures
+    ∙ ap (λ (x : List ℕ). onAccepted counted (messageOf k x)) (c .before .before .before .before .«data» .ensures)))
 
 -- src/message.rt:324:1
 returns-3 : tie.Need-returns-3
