@@ -45,6 +45,24 @@ uint64_t omnilink_frame_write(uint8_t type, const uint8_t *data, size_t len, uin
 
 /* Omnistat2 messages */
 
+/* Reads a message at the thermostat: type (8), first byte (8), start register (8), count of registers or values (8).
+   Types: 0 poll, 1 set, 2 to 4 poll of group 1 to 3, whose start and count are 0. The values of a set are the count
+   bytes from bytes[3] on. Refusals: 1, 2, 4, 5, 6, 7, 8. */
+uint64_t omnistat_read_at_thermostat(const uint8_t *bytes, size_t len);
+
+/* Reads a message at the host: type (8), number of the thermostat (8), start register (8), count of values (8).
+   Types: 0 acknowledge, 1 negative, start and count 0; 2 data, the values from bytes[3] on; 3 to 5 group 1 to 3, start
+   0, the values from bytes[2] on. A first byte FA is a reply from thermostat 7A. Refusals: 1, 2, 4, 5, 6, 7, 8. */
+uint64_t omnistat_read_at_host(const uint8_t *bytes, size_t len);
+
+/* Writes a message to a thermostat, of a type and its data bytes: bytes written (16). The address is 00 for all, 01 to
+   7F, or FA universal. Refusals: 6, 7, 8, 9. */
+uint64_t omnistat_write_to_thermostat(uint8_t address, uint8_t type, const uint8_t *data, size_t len, uint8_t *out, size_t room);
+
+/* Writes a reply to the host, of a type and its data bytes: bytes written (16). The number is the thermostat's, 01 to 7F.
+   Refusals: 6, 7, 8, 9. */
+uint64_t omnistat_write_to_host(uint8_t number, uint8_t type, const uint8_t *data, size_t len, uint8_t *out, size_t room);
+
 /* The model thermostat, temperatures and setpoints */
 
 /* Cost */
@@ -62,7 +80,22 @@ uint64_t cost_millionths(uint16_t word);
    Accepted: nothing. */
 uint64_t tally_add(struct tally *t, uint16_t word);
 
-/* X-10 patterns */
+/* X-10 patterns: one byte of value 0 or 1 for each half cycle. House 0 to 15 stands for A to P, units are 1 to 16. */
+
+/* Reads a pattern of 22 places, or an Extended 1 of 62. Accepted: kind (8: 0 unit, 1 function, 2 Extended 1), house (8),
+   unit or function code D8 D4 D2 D1 (8), data (8), command (8); data and command are 0 but for Extended 1.
+   Refused 1, 8, 2, 5 or 6 on the first 22 places, 1, 8 or 5 on the rest of an Extended 1, then 4. */
+uint64_t x10_read(const uint8_t *places, size_t len);
+
+/* Writes the 22 places of a house and a unit. Accepted: places written (16). Refused 8, then 9. */
+uint64_t x10_write_unit(uint8_t house, uint8_t unit, uint8_t *out, size_t room);
+
+/* Writes the 22 places of a house and a function, by its code D8 D4 D2 D1. Accepted: places written (16).
+   Refused 6 (1011, every extended code, and above 15), 8, then 9. */
+uint64_t x10_write_function(uint8_t house, uint8_t code, uint8_t *out, size_t room);
+
+/* Writes the 62 places of an Extended 1. Accepted: places written (16). Refused 8, then 9. */
+uint64_t x10_write_extended(uint8_t house, uint8_t unit, uint8_t data, uint8_t command, uint8_t *out, size_t room);
 
 /* The capture listing */
 

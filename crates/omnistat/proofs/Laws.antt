@@ -1,0 +1,11 @@
+pub mod Frame
+pub mod Group
+pub mod Heard
+pub mod Message
+pub mod Omnistat
+pub mod Outcome
+pub mod Output
+pub mod Part
+pub mod Run
+pub mod Sum
+pub mod Typed

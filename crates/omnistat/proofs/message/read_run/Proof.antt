@@ -1,0 +1,57 @@
+use mathlib.Core.Path.{_≡_, sym, ap, _∙_}
+use mathlib.Core.Bool.{true, false}
+use Prim.Native.Nat.{ℕ, _-_}
+use native.Mathlib.Omega.{arith}
+use borrow.Author.Tests.{not-true, not-false}
+use denote.Ref.{now}
+use lib.ListN.{length, getD, drop, length-drop}
+use Rattle.answer.specs.Answer.{accepted}
+use Rattle.omnistat.specs.Answer.{span}
+use Rattle.omnistat.proofs.Laws.Message.{run-short, run-long, run-of}
+use borrow.Author.Needs.{needs}
+use Rattle.omnistat.proofs.message.read_run.Statement.{statement}
+use Rattle.omnistat.proofs.message.read_run.Tie as tie
+
+returns : tie.Need-returns
+returns c = sym (run-short span (now (c .before .before .args .payload)) (c .if1 .taken))
+
+returns-2 : tie.Need-returns-2
+returns-2 c = sym (run-long span (now (c .before .before .before .args .payload)) (c .if2 .taken))
+
+shared-slice-read-start : tie.Need-shared-slice-read-start
+shared-slice-read-start c = search needs
+
+sub-count : tie.Need-sub-count
+sub-count c = search needs
+
+cast-count : tie.Need-cast-count
+cast-count c = search needs
+
+is-run-requires : tie.Need-is-run-requires
+is-run-requires c κs = search needs
+
+returns-3 : tie.Need-returns-3
+returns-3 c =
+    sym
+    (run-of span false (now (c .before .before .before .before .before .before .args .payload)) (omega arith) (omega arith)
+    (sym (c .before .is-run .ensures) ∙ not-true _ (c .if3 .taken)))
+
+returns-4 : tie.Need-returns-4
+returns-4 c =
+    let d = now (c .before .before .before .before .before .before .args .payload) in
+    let e : length (drop 1 d) ≡ length d - 1 = length-drop 1 d in
+    ap (λ (n : ℕ). accepted (record { start = getD d 0 0; count = n })) (sym e)
+    ∙ sym (run-of span true d (omega arith) (omega arith) (sym (c .before .is-run .ensures) ∙ not-false _ (c .if3 .left)))
+
+pub read-run-spec : {M : Type 1} → statement M
+read-run-spec =
+    tie.close
+    (tie.spec
+    returns
+    returns-2
+    shared-slice-read-start
+    sub-count
+    cast-count
+    is-run-requires
+    returns-3
+    returns-4)

@@ -1,0 +1,74 @@
+use mathlib.Core.Path.{sym, ap, _∙_}
+use denote.Ref.{now}
+use Rattle.answer.specs.Answer.{onAccepted}
+use Rattle.omnistat.specs.declared.reply.Reply.{Reply}
+use Rattle.omnistat.specs.Message.{asReply}
+use Rattle.omnistat.specs.Answer.{passed, replyOf, heardReply}
+use Rattle.omnistat.proofs.Laws.Outcome.{checked}
+use borrow.Author.Needs.{needs}
+use Rattle.omnistat.proofs.reply.check.Statement.{statement}
+use Rattle.omnistat.proofs.reply.check.Tie as tie
+
+as-reply-requires : tie.Need-as-reply-requires
+as-reply-requires c κs = search needs
+
+enum-known-r : tie.Need-enum-known-r
+enum-known-r c = search needs
+
+enum-told : tie.Need-enum-told
+enum-told c = search needs
+
+enum-told-2 : tie.Need-enum-told-2
+enum-told-2 c = search needs
+
+enum-told-3 : tie.Need-enum-told-3
+enum-told-3 c = search needs
+
+enum-told-4 : tie.Need-enum-told-4
+enum-told-4 c = search needs
+
+returns : tie.Need-returns
+returns c =
+    let a = c .before .before .before .before .before .args in
+    ap (λ (r : Reply). onAccepted passed (replyOf r)) (sym (c .before .r .given .1))
+    ∙ checked (heardReply 0) (asReply (a .kind) (now (a .payload))) _ (c .before .before .before .as-reply .ensures)
+
+returns-2 : tie.Need-returns-2
+returns-2 c =
+    let a = c .before .before .before .before .args in
+    ap (λ (r : Reply). onAccepted passed (replyOf r)) (sym (c .enum-told .given .1))
+    ∙ checked (heardReply 0) (asReply (a .kind) (now (a .payload))) _ (c .before .before .as-reply .ensures)
+
+returns-3 : tie.Need-returns-3
+returns-3 c =
+    let a = c .before .before .before .before .args in
+    ap (λ (r : Reply). onAccepted passed (replyOf r)) (sym (c .enum-told2 .given .1))
+    ∙ checked (heardReply 0) (asReply (a .kind) (now (a .payload))) _ (c .before .before .as-reply .ensures)
+
+returns-4 : tie.Need-returns-4
+returns-4 c =
+    let a = c .before .before .before .before .args in
+    ap (λ (r : Reply). onAccepted passed (replyOf r)) (sym (c .enum-told3 .given .1))
+    ∙ checked (heardReply 0) (asReply (a .kind) (now (a .payload))) _ (c .before .before .as-reply .ensures)
+
+returns-5 : tie.Need-returns-5
+returns-5 c =
+    let a = c .before .before .before .before .args in
+    ap (λ (r : Reply). onAccepted passed (replyOf r)) (sym (c .enum-told4 .given .1))
+    ∙ checked (heardReply 0) (asReply (a .kind) (now (a .payload))) _ (c .before .before .as-reply .ensures)
+
+pub check-spec : {M : Type 1} → statement M
+check-spec =
+    tie.close
+    (tie.spec
+    as-reply-requires
+    enum-known-r
+    enum-told
+    enum-told-2
+    enum-told-3
+    enum-told-4
+    returns
+    returns-2
+    returns-3
+    returns-4
+    returns-5)

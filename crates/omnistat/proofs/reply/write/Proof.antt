@@ -1,0 +1,83 @@
+use mathlib.Core.Path.{_≡_, sym, ap, _∙_}
+use borrow.Author.Tests.{not-true, not-false}
+use denote.Ref.{now}
+use Rattle.answer.specs.Answer.{accepted, onAccepted, numberOf}
+use Rattle.omnistat.specs.declared.frame.End.the-variants.{Host}
+use Rattle.omnistat.specs.Omnistat.{asMessage, writeBytes}
+use Rattle.omnistat.specs.Answer.{passed, checkOf}
+use Rattle.omnistat.proofs.Laws.Omnistat.{write-refused, frame-fits, write-misaddressed, write-framed}
+use Rattle.omnistat.proofs.Laws.Output.{leaves-refused, leaves-same}
+use native.Mathlib.Omega.{arith}
+use Rattle.omnistat.proofs.Laws.Message.{within-both}
+use borrow.Author.Needs.{needs}
+use Rattle.omnistat.proofs.reply.write.Statement.{statement}
+use Rattle.omnistat.proofs.reply.write.Tie as tie
+
+-- the type and the data bytes passed their checks
+went-on : (c : tie.After-enum-told)
+    → accepted tt ≡ onAccepted passed (asMessage Host (c .before .before .before .before .before .args .kind) (now (c .before .before .before .before .before .args .payload)))
+went-on c = ap checkOf (sym (c .enum-told .given .1)) ∙ c .before .before .check .ensures
+
+check-requires : tie.Need-check-requires
+check-requires c κs = search needs
+
+enum-known-r : tie.Need-enum-known-r
+enum-known-r c = search needs
+
+enum-told : tie.Need-enum-told
+enum-told c = search needs
+
+is-number-requires : tie.Need-is-number-requires
+is-number-requires c κs = search needs
+
+returns : tie.Need-returns
+returns c =
+    let a = c .before .before .before .before .before .before .before .args in
+    leaves-refused (now (a .out)) (writeBytes Host (a .number) (a .kind) (now (a .payload))) 8
+    (write-misaddressed Host (a .number) (a .kind) (now (a .payload)) (went-on (c .before .before))
+    (sym (c .before .is-number .ensures) ∙ not-true _ (c .if1 .taken)))
+
+add-write : tie.Need-add-write
+add-write c =
+    omega (
+      arith,
+      within-both 1 127 (c .before .before .before .before .before .before .before .args .number) (sym (c .before .is-number .ensures) ∙ not-false _ (c .if1 .left)) .1,
+    )
+
+write-requires : tie.Need-write-requires
+write-requires c κs =
+    let a = c .before .before .before .before .before .before .before .before .args in
+    frame-fits Host (a .number) (a .kind) (now (a .payload)) (went-on (c .before .before .before))
+
+returns-2 : tie.Need-returns-2
+returns-2 c =
+    let a = c .before .before .before .before .before .before .args in
+    leaves-refused (now (a .out)) (writeBytes Host (a .number) (a .kind) (now (a .payload))) (numberOf (c .before .r .given .0 .0))
+    (write-refused Host (a .number) (a .kind) (now (a .payload)) (numberOf (c .before .r .given .0 .0))
+    (ap checkOf (sym (c .before .r .given .1)) ∙ c .before .before .before .check .ensures))
+
+same-length : tie.Need-same-length
+same-length c = search needs
+
+returns-3 : tie.Need-returns-3
+returns-3 c =
+    let a = c .before .before .before .before .before .before .before .before .before .before .before .args in
+    leaves-same (now (a .out)) (writeBytes Host (a .number) (a .kind) (now (a .payload))) _ _ _
+    (write-framed Host (a .number) (a .kind) (now (a .payload)) (went-on (c .before .before .before .before .before .before))
+    (sym (c .before .before .before .before .before .is-number .ensures) ∙ not-false _ (c .before .before .before .before .if1 .left)))
+    (c .before .before .write .ensures)
+
+pub write-spec : {M : Type 1} → statement M
+write-spec =
+    tie.close
+    (tie.spec
+    check-requires
+    enum-known-r
+    enum-told
+    is-number-requires
+    returns
+    add-write
+    write-requires
+    returns-2
+    same-length
+    returns-3)

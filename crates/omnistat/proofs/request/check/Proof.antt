@@ -1,0 +1,63 @@
+use mathlib.Core.Path.{sym, ap, _∙_}
+use denote.Ref.{now}
+use Rattle.answer.specs.Answer.{onAccepted}
+use Rattle.omnistat.specs.declared.request.Request.{Request}
+use Rattle.omnistat.specs.Message.{asRequest}
+use Rattle.omnistat.specs.Answer.{passed, requestOf, heardRequest}
+use Rattle.omnistat.proofs.Laws.Outcome.{checked}
+use borrow.Author.Needs.{needs}
+use Rattle.omnistat.proofs.request.check.Statement.{statement}
+use Rattle.omnistat.proofs.request.check.Tie as tie
+
+as-request-requires : tie.Need-as-request-requires
+as-request-requires c κs = search needs
+
+enum-known-r : tie.Need-enum-known-r
+enum-known-r c = search needs
+
+enum-told : tie.Need-enum-told
+enum-told c = search needs
+
+enum-told-2 : tie.Need-enum-told-2
+enum-told-2 c = search needs
+
+enum-told-3 : tie.Need-enum-told-3
+enum-told-3 c = search needs
+
+returns : tie.Need-returns
+returns c =
+    let a = c .before .before .before .before .before .args in
+    ap (λ (r : Request). onAccepted passed (requestOf r)) (sym (c .before .r .given .1))
+    ∙ checked (heardRequest 0) (asRequest (a .kind) (now (a .payload))) _ (c .before .before .before .as-request .ensures)
+
+returns-2 : tie.Need-returns-2
+returns-2 c =
+    let a = c .before .before .before .before .args in
+    ap (λ (r : Request). onAccepted passed (requestOf r)) (sym (c .enum-told .given .1))
+    ∙ checked (heardRequest 0) (asRequest (a .kind) (now (a .payload))) _ (c .before .before .as-request .ensures)
+
+returns-3 : tie.Need-returns-3
+returns-3 c =
+    let a = c .before .before .before .before .args in
+    ap (λ (r : Request). onAccepted passed (requestOf r)) (sym (c .enum-told2 .given .1))
+    ∙ checked (heardRequest 0) (asRequest (a .kind) (now (a .payload))) _ (c .before .before .as-request .ensures)
+
+returns-4 : tie.Need-returns-4
+returns-4 c =
+    let a = c .before .before .before .before .args in
+    ap (λ (r : Request). onAccepted passed (requestOf r)) (sym (c .enum-told3 .given .1))
+    ∙ checked (heardRequest 0) (asRequest (a .kind) (now (a .payload))) _ (c .before .before .as-request .ensures)
+
+pub check-spec : {M : Type 1} → statement M
+check-spec =
+    tie.close
+    (tie.spec
+    as-request-requires
+    enum-known-r
+    enum-told
+    enum-told-2
+    enum-told-3
+    returns
+    returns-2
+    returns-3
+    returns-4)

@@ -1,0 +1,221 @@
+// What a thermostat replies: acknowledge, negative, data, and the three groups. Read at the host, written to the host.
+ghost use mathlib.Core.Path.{_≡_};
+ghost use lib.ListN.{length, take, drop};
+ghost use Rattle.answer.specs.Answer.{onAccepted, inRoom, outAfter, writtenOf};
+ghost use Rattle.omnistat.specs.Message.{asRun, asBare, asGroup, asReply, acknowledge, negative, dataFrom, group as groupValues};
+ghost use Rattle.omnistat.specs.Omnistat.{read, write, writeBytes};
+ghost use Rattle.omnistat.specs.Frame.{addressable};
+ghost use Rattle.omnistat.specs.Answer.{replyOf, checkOf, passed, heardReply, onMessage, countedReply};
+use crate::frame::End;
+use crate::frame::Framed;
+use crate::frame::REPLY;
+use crate::group::Group;
+use crate::group::Named;
+use crate::message::Check;
+use crate::message::MOST_VALUES;
+use crate::message::Run;
+use answer::Refusal;
+use answer::Written;
+
+// The types of an acknowledge, a negative and data; a group has its own.
+pub const ACKNOWLEDGE: u8 = 0;
+
+pub const NEGATIVE: u8 = 1;
+
+pub const DATA: u8 = 2;
+// The numbers of thermostats are 01 to 7F.
+const FIRST_NUMBER: u8 = 0x01;
+
+const LAST_NUMBER: u8 = 0x7F;
+
+// What a message to the host is, with the number of the thermostat that sent it. The values are a part of the message, which
+// `values` and `group_values` hand back.
+pub enum Reply {
+    Refused(Refusal),
+    Acknowledge { number: u8 },
+    Negative { number: u8 },
+    Data { number: u8, start: u8, count: u8 },
+    Group { number: u8, group: Group, count: u8 },
+}
+
+// The data bytes of an acknowledge: none.
+pub(crate) fn as_acknowledge(number: u8, payload: &[u8]) -> Reply
+    ensures { λ r. ⌜ replyOf r ≡ onAccepted (heardReply number) (asBare acknowledge (now (payload .entry))) ⌝ }
+{
+    if payload.len() != 0 {
+        return Reply::Refused(Refusal::TypeLength);
+    }
+    Reply::Acknowledge { number }
+}
+
+// The data bytes of a negative: none.
+pub(crate) fn as_negative(number: u8, payload: &[u8]) -> Reply
+    ensures { λ r. ⌜ replyOf r ≡ onAccepted (heardReply number) (asBare negative (now (payload .entry))) ⌝ }
+{
+    if payload.len() != 0 {
+        return Reply::Refused(Refusal::TypeLength);
+    }
+    Reply::Negative { number }
+}
+
+// The data bytes of a data message: start and values.
+pub(crate) fn as_data(number: u8, payload: &[u8]) -> Reply
+    ensures { λ r. ⌜ replyOf r ≡ onAccepted (heardReply number) (asRun dataFrom (now (payload .entry))) ⌝ }
+{
+    match crate::message::read_run(payload) {
+        Run::Refused(r) => Reply::Refused(r),
+        Run::Registers { start, count } => Reply::Data {
+            number,
+            start,
+            count,
+        },
+    }
+}
+
+// The data bytes of a group: as many values as it has.
+pub(crate) fn as_group(number: u8, group: Group, payload: &[u8]) -> Reply
+    ensures { λ r. ⌜ replyOf r ≡ onAccepted (heardReply number) (asGroup group (now (payload .entry))) ⌝ }
+{
+    let count = crate::group::reply_length(group);
+    if payload.len() != count as usize {
+        return Reply::Refused(Refusal::TypeLength);
+    }
+    Reply::Group {
+        number,
+        group,
+        count,
+    }
+}
+
+// What a type and its data bytes say to the host.
+pub(crate) fn as_reply(number: u8, kind: u8, payload: &[u8]) -> Reply
+    ensures { λ r. ⌜ replyOf r ≡ onAccepted (heardReply number) (asReply kind (now (payload .entry))) ⌝ }
+{
+    if kind == ACKNOWLEDGE {
+        return as_acknowledge(number, payload);
+    }
+    if kind == NEGATIVE {
+        return as_negative(number, payload);
+    }
+    if kind == DATA {
+        return as_data(number, payload);
+    }
+    match crate::group::replied(kind) {
+        Named::Of(group) => as_group(number, group, payload),
+        Named::Unknown => Reply::Refused(Refusal::Unknown),
+    }
+}
+
+// Reads a message at the host. Every first byte above 80 is a reply from that number less 80.
+pub fn read(bytes: &[u8]) -> Reply
+    ensures { λ r. ⌜ replyOf r ≡ onAccepted (onMessage countedReply) (read End.Host (now (bytes .entry))) ⌝ }
+{
+    match crate::frame::read(End::Host, bytes) {
+        Framed::Refused(r) => Reply::Refused(r),
+        Framed::Whole { first, kind, count } => as_reply(
+            first - REPLY,
+            kind,
+            crate::frame::part(bytes, 2, count as usize),
+        ),
+    }
+}
+
+// The values of a data message with count values that was read from these bytes: a part of them.
+pub fn values(bytes: &[u8], count: u8) -> &[u8]
+    ensures { λ r. ⌜ now r ≡ take count (drop 3 (now (bytes .entry))) ⌝ }
+{
+    crate::frame::part(bytes, 3, count as usize)
+}
+
+// The values of a group reply with count values that was read from these bytes: a part of them.
+pub fn group_values(bytes: &[u8], count: u8) -> &[u8]
+    ensures { λ r. ⌜ now r ≡ take count (drop 2 (now (bytes .entry))) ⌝ }
+{
+    crate::frame::part(bytes, 2, count as usize)
+}
+
+// Whether a type and its data bytes are a reply.
+pub(crate) fn check(kind: u8, payload: &[u8]) -> Check
+    ensures { λ r. ⌜ checkOf r ≡ onAccepted passed (asReply kind (now (payload .entry))) ⌝ }
+{
+    match as_reply(0, kind, payload) {
+        Reply::Refused(r) => Check::Refused(r),
+        Reply::Acknowledge { number: _ } => Check::Passed,
+        Reply::Negative { number: _ } => Check::Passed,
+        Reply::Data {
+            number: _,
+            start: _,
+            count: _,
+        } => Check::Passed,
+        Reply::Group {
+            number: _,
+            group: _,
+            count: _,
+        } => Check::Passed,
+    }
+}
+
+// Whether a reply may carry this number.
+pub(crate) fn is_number(number: u8) -> bool
+    ensures { λ r. ⌜ r ≡ addressable End.Host number ⌝ }
+{
+    if number < FIRST_NUMBER {
+        return false;
+    }
+    number <= LAST_NUMBER
+}
+
+// Writes the reply that a type number and data bytes make. The number is that of the thermostat, 01 to 7F.
+pub fn write(number: u8, kind: u8, payload: &[u8], out: &mut [u8]) -> Written
+    ensures { λ r. ⌜ writtenOf r ≡ onAccepted length (inRoom (length (now (out .entry))) (writeBytes End.Host number kind (now (payload .entry)))) ⌝ }
+    ensures { λ r. ⌜ now (out .exit) ≡ outAfter (inRoom (length (now (out .entry))) (writeBytes End.Host number kind (now (payload .entry)))) (now (out .entry)) ⌝ }
+{
+    match check(kind, payload) {
+        Check::Refused(r) => Written::Refused(r),
+        Check::Passed => {
+            if !is_number(number) {
+                return Written::Refused(Refusal::Field);
+            }
+            crate::frame::write(number + REPLY, kind, payload, out)
+        }
+    }
+}
+
+// Writes an acknowledge.
+pub fn write_acknowledge(number: u8, out: &mut [u8]) -> Written
+    ensures { λ r. ⌜ writtenOf r ≡ onAccepted length (inRoom (length (now (out .entry))) (write End.Host number acknowledge)) ⌝ }
+    ensures { λ r. ⌜ now (out .exit) ≡ outAfter (inRoom (length (now (out .entry))) (write End.Host number acknowledge)) (now (out .entry)) ⌝ }
+{
+    let none = [0u8; 1];
+    write(number, ACKNOWLEDGE, &none[..0], out)
+}
+
+// Writes a negative.
+pub fn write_negative(number: u8, out: &mut [u8]) -> Written
+    ensures { λ r. ⌜ writtenOf r ≡ onAccepted length (inRoom (length (now (out .entry))) (write End.Host number negative)) ⌝ }
+    ensures { λ r. ⌜ now (out .exit) ≡ outAfter (inRoom (length (now (out .entry))) (write End.Host number negative)) (now (out .entry)) ⌝ }
+{
+    let none = [0u8; 1];
+    write(number, NEGATIVE, &none[..0], out)
+}
+
+// Writes data: the contents of registers from a start, lent as values.
+pub fn write_data(number: u8, start: u8, values: &[u8], out: &mut [u8]) -> Written
+    ensures { λ r. ⌜ writtenOf r ≡ onAccepted length (inRoom (length (now (out .entry))) (write End.Host number (dataFrom start (now (values .entry))))) ⌝ }
+    ensures { λ r. ⌜ now (out .exit) ≡ outAfter (inRoom (length (now (out .entry))) (write End.Host number (dataFrom start (now (values .entry))))) (now (out .entry)) ⌝ }
+{
+    if MOST_VALUES < values.len() {
+        return Written::Refused(Refusal::TypeLength);
+    }
+    let payload = crate::message::run_payload(start, values);
+    let n = values.len() + 1;
+    write(number, DATA, &payload[..n], out)
+}
+
+// Writes a group, with the lent values.
+pub fn write_group(number: u8, group: Group, values: &[u8], out: &mut [u8]) -> Written
+    ensures { λ r. ⌜ writtenOf r ≡ onAccepted length (inRoom (length (now (out .entry))) (write End.Host number (groupValues group (now (values .entry))))) ⌝ }
+    ensures { λ r. ⌜ now (out .exit) ≡ outAfter (inRoom (length (now (out .entry))) (write End.Host number (groupValues group (now (values .entry))))) (now (out .entry)) ⌝ }
+{
+    write(number, crate::group::reply_type(group), values, out)
+}

@@ -1,0 +1,185 @@
+// What the host sends: poll, set, and the polls of the three groups. Read at the thermostat, written to the thermostat.
+ghost use mathlib.Core.Path.{_≡_};
+ghost use lib.ListN.{length, take, drop};
+ghost use Rattle.answer.specs.Answer.{onAccepted, inRoom, outAfter, writtenOf};
+ghost use Rattle.omnistat.specs.Message.{asPoll, asRun, asBare, asRequest, poll, setFrom, pollGroup};
+ghost use Rattle.omnistat.specs.Omnistat.{read, write, writeBytes};
+ghost use Rattle.omnistat.specs.Answer.{requestOf, checkOf, passed, heardRequest, onMessage, countedRequest};
+use crate::frame::End;
+use crate::frame::Framed;
+use crate::group::Group;
+use crate::group::Named;
+use crate::message::Check;
+use crate::message::MOST_VALUES;
+use crate::message::Run;
+use answer::Refusal;
+use answer::Written;
+
+// The types of a poll and a set; a group poll has that of its group.
+pub const POLL: u8 = 0;
+
+pub const SET: u8 = 1;
+// The most registers that one message polls.
+const MOST_POLLED: u8 = 14;
+
+// What a message to the thermostat is. The first byte is the address that it carries. The values of a set are a part of the message,
+// which `values` hands back.
+pub enum Request {
+    Refused(Refusal),
+    Poll { first: u8, start: u8, count: u8 },
+    Set { first: u8, start: u8, count: u8 },
+    PollGroup { first: u8, group: Group },
+}
+
+// The data bytes of a poll: start and count.
+pub(crate) fn as_poll(first: u8, payload: &[u8]) -> Request
+    ensures { λ r. ⌜ requestOf r ≡ onAccepted (heardRequest first) (asPoll (now (payload .entry))) ⌝ }
+{
+    if payload.len() != 2 {
+        return Request::Refused(Refusal::TypeLength);
+    }
+    let start = payload[0];
+    let count = payload[1];
+    if count < 1 {
+        return Request::Refused(Refusal::Field);
+    }
+    if MOST_POLLED < count {
+        return Request::Refused(Refusal::Field);
+    }
+    if !crate::message::is_run(start, count) {
+        return Request::Refused(Refusal::Field);
+    }
+    Request::Poll {
+        first,
+        start,
+        count,
+    }
+}
+
+// The data bytes of a set: start and values.
+pub(crate) fn as_set(first: u8, payload: &[u8]) -> Request
+    ensures { λ r. ⌜ requestOf r ≡ onAccepted (heardRequest first) (asRun setFrom (now (payload .entry))) ⌝ }
+{
+    match crate::message::read_run(payload) {
+        Run::Refused(r) => Request::Refused(r),
+        Run::Registers { start, count } => Request::Set {
+            first,
+            start,
+            count,
+        },
+    }
+}
+
+// The data bytes of a group poll: none.
+pub(crate) fn as_group_poll(first: u8, group: Group, payload: &[u8]) -> Request
+    ensures { λ r. ⌜ requestOf r ≡ onAccepted (heardRequest first) (asBare (pollGroup group) (now (payload .entry))) ⌝ }
+{
+    if payload.len() != 0 {
+        return Request::Refused(Refusal::TypeLength);
+    }
+    Request::PollGroup { first, group }
+}
+
+// What a type and its data bytes say to a thermostat.
+pub(crate) fn as_request(first: u8, kind: u8, payload: &[u8]) -> Request
+    ensures { λ r. ⌜ requestOf r ≡ onAccepted (heardRequest first) (asRequest kind (now (payload .entry))) ⌝ }
+{
+    if kind == POLL {
+        return as_poll(first, payload);
+    }
+    if kind == SET {
+        return as_set(first, payload);
+    }
+    match crate::group::polled(kind) {
+        Named::Of(group) => as_group_poll(first, group, payload),
+        Named::Unknown => Request::Refused(Refusal::Unknown),
+    }
+}
+
+// Reads a message at the thermostat.
+pub fn read(bytes: &[u8]) -> Request
+    ensures { λ r. ⌜ requestOf r ≡ onAccepted (onMessage countedRequest) (read End.Thermostat (now (bytes .entry))) ⌝ }
+{
+    match crate::frame::read(End::Thermostat, bytes) {
+        Framed::Refused(r) => Request::Refused(r),
+        Framed::Whole { first, kind, count } => as_request(
+            first,
+            kind,
+            crate::frame::part(bytes, 2, count as usize),
+        ),
+    }
+}
+
+// The values of a set of count values that was read from these bytes: a part of them.
+pub fn values(bytes: &[u8], count: u8) -> &[u8]
+    ensures { λ r. ⌜ now r ≡ take count (drop 3 (now (bytes .entry))) ⌝ }
+{
+    crate::frame::part(bytes, 3, count as usize)
+}
+
+// Whether a type and its data bytes are a message to a thermostat.
+pub(crate) fn check(kind: u8, payload: &[u8]) -> Check
+    ensures { λ r. ⌜ checkOf r ≡ onAccepted passed (asRequest kind (now (payload .entry))) ⌝ }
+{
+    match as_request(0, kind, payload) {
+        Request::Refused(r) => Check::Refused(r),
+        Request::Poll {
+            first: _,
+            start: _,
+            count: _,
+        } => Check::Passed,
+        Request::Set {
+            first: _,
+            start: _,
+            count: _,
+        } => Check::Passed,
+        Request::PollGroup { first: _, group: _ } => Check::Passed,
+    }
+}
+
+// Writes the message to a thermostat that a type number and data bytes make. The address is 00, 01 to 7F or FA.
+pub fn write(address: u8, kind: u8, payload: &[u8], out: &mut [u8]) -> Written
+    ensures { λ r. ⌜ writtenOf r ≡ onAccepted length (inRoom (length (now (out .entry))) (writeBytes End.Thermostat address kind (now (payload .entry)))) ⌝ }
+    ensures { λ r. ⌜ now (out .exit) ≡ outAfter (inRoom (length (now (out .entry))) (writeBytes End.Thermostat address kind (now (payload .entry)))) (now (out .entry)) ⌝ }
+{
+    match check(kind, payload) {
+        Check::Refused(r) => Written::Refused(r),
+        Check::Passed => {
+            if !crate::frame::is_to_thermostat(address) {
+                return Written::Refused(Refusal::Field);
+            }
+            crate::frame::write(address, kind, payload, out)
+        }
+    }
+}
+
+// Writes a poll of count registers from a start.
+pub fn write_poll(address: u8, start: u8, count: u8, out: &mut [u8]) -> Written
+    ensures { λ r. ⌜ writtenOf r ≡ onAccepted length (inRoom (length (now (out .entry))) (write End.Thermostat address (poll start count))) ⌝ }
+    ensures { λ r. ⌜ now (out .exit) ≡ outAfter (inRoom (length (now (out .entry))) (write End.Thermostat address (poll start count))) (now (out .entry)) ⌝ }
+{
+    let payload = [start, count];
+    write(address, POLL, &payload, out)
+}
+
+// Writes a set of registers from a start, with the lent values.
+pub fn write_set(address: u8, start: u8, values: &[u8], out: &mut [u8]) -> Written
+    ensures { λ r. ⌜ writtenOf r ≡ onAccepted length (inRoom (length (now (out .entry))) (write End.Thermostat address (setFrom start (now (values .entry))))) ⌝ }
+    ensures { λ r. ⌜ now (out .exit) ≡ outAfter (inRoom (length (now (out .entry))) (write End.Thermostat address (setFrom start (now (values .entry))))) (now (out .entry)) ⌝ }
+{
+    if MOST_VALUES < values.len() {
+        return Written::Refused(Refusal::TypeLength);
+    }
+    let payload = crate::message::run_payload(start, values);
+    let n = values.len() + 1;
+    write(address, SET, &payload[..n], out)
+}
+
+// Writes a poll of a group.
+pub fn write_group_poll(address: u8, group: Group, out: &mut [u8]) -> Written
+    ensures { λ r. ⌜ writtenOf r ≡ onAccepted length (inRoom (length (now (out .entry))) (write End.Thermostat address (pollGroup group))) ⌝ }
+    ensures { λ r. ⌜ now (out .exit) ≡ outAfter (inRoom (length (now (out .entry))) (write End.Thermostat address (pollGroup group))) (now (out .entry)) ⌝ }
+{
+    let none = [0u8; 1];
+    write(address, crate::group::poll_type(group), &none[..0], out)
+}

@@ -1,0 +1,156 @@
+-- The code list is a bijection of the 16 codes: one test over the list and over the places of its codes. Assumes nothing.
+use mathlib.Core.Path.{_≡_, refl, sym, ap, _∙_}
+use mathlib.Core.Bool.{Bool, true, false, cond, _&&_}
+use mathlib.Core.List.{List, [], _∷_}
+use Prim.Native.Nat.{ℕ, _<_}
+use lib.Dec.{T, eqb, ltb, eqb→eq, ltb→lt}
+use lib.ListN.{getD}
+use native.Mathlib.Omega.{arith}
+use borrow.Author.Tests.{ne-eqb, eqb-true}
+use Rattle.answer.specs.Answer.{refused, accepted}
+use Rattle.x10.specs.declared.Function.{Function}
+use Rattle.x10.specs.declared.Function.the-variants.{AllUnitsOff, AllLightsOn, On, Off, Dim, Bright, AllLightsOff, HailRequest, HailAcknowledge, StatusOn, StatusOff, StatusRequest}
+use Rattle.x10.specs.Codes.{codes, codeAt, indexOf, functionCode, functions, functionIn, functionOf, extended1}
+use Rattle.x10.proofs.Laws.Outcome.{never, same}
+use Rattle.x10.proofs.Laws.Table.{both-left, both-right, at}
+
+-- the rule of the list, at place i with the code x: the code is one of 16 and its place is i; and the code i has a place, where it stands
+rule : ℕ → ℕ → Bool
+rule i x = ltb x 16 && (eqb (indexOf x) i && (ltb (indexOf i) 16 && eqb (codeAt (indexOf i)) i))
+
+-- the place of each code, by code
+abbrev pub places : List ℕ
+places = 12 ∷ 4 ∷ 2 ∷ 10 ∷ 14 ∷ 6 ∷ 0 ∷ 8 ∷ 13 ∷ 5 ∷ 3 ∷ 11 ∷ 15 ∷ 7 ∷ 1 ∷ 9 ∷ []
+
+right : ℕ → ℕ → Bool
+right code x = eqb x (indexOf code)
+
+module _ (i : ℕ) (h : i < 16) where
+  holds : T (rule i (codeAt i))
+  unfolding rule codeAt indexOf
+  holds = at rule codes tt i h
+
+  there : T (eqb (indexOf (codeAt i)) i && (ltb (indexOf i) 16 && eqb (codeAt (indexOf i)) i))
+  unfolding rule
+  there = both-right (ltb (codeAt i) 16) (eqb (indexOf (codeAt i)) i && (ltb (indexOf i) 16 && eqb (codeAt (indexOf i)) i)) holds
+
+  back : T (ltb (indexOf i) 16 && eqb (codeAt (indexOf i)) i)
+  back = both-right (eqb (indexOf (codeAt i)) i) (ltb (indexOf i) 16 && eqb (codeAt (indexOf i)) i) there
+
+  pub code-small : codeAt i < 16
+  unfolding rule
+  code-small =
+      ltb→lt (codeAt i) 16
+      (both-left (ltb (codeAt i) 16) (eqb (indexOf (codeAt i)) i && (ltb (indexOf i) 16 && eqb (codeAt (indexOf i)) i)) holds)
+
+  pub index-of-code : indexOf (codeAt i) ≡ i
+  index-of-code =
+      eqb→eq (indexOf (codeAt i)) i (both-left (eqb (indexOf (codeAt i)) i) (ltb (indexOf i) 16 && eqb (codeAt (indexOf i)) i) there)
+
+  pub index-small : indexOf i < 16
+  index-small = ltb→lt (indexOf i) 16 (both-left (ltb (indexOf i) 16) (eqb (codeAt (indexOf i)) i) back)
+
+  pub code-at-index : codeAt (indexOf i) ≡ i
+  code-at-index = eqb→eq (codeAt (indexOf i)) i (both-right (ltb (indexOf i) 16) (eqb (codeAt (indexOf i)) i) back)
+
+  -- the table of places says where each code stands
+  pub place-of : getD places i 0 ≡ indexOf i
+  unfolding right indexOf
+  place-of = eqb→eq (getD places i 0) (indexOf i) (at right places tt i h)
+
+-- each function is found by its code
+pub function-found : (f : Function) → functionOf (functionCode f) ≡ accepted f
+unfolding functionOf
+function-found AllUnitsOff = refl
+function-found AllLightsOn = refl
+function-found On = refl
+function-found Off = refl
+function-found Dim = refl
+function-found Bright = refl
+function-found AllLightsOff = refl
+function-found HailRequest = refl
+function-found HailAcknowledge = refl
+function-found StatusOn = refl
+function-found StatusOff = refl
+function-found StatusRequest = refl
+
+pub found : (f : Function) (code : ℕ) → code ≡ functionCode f → accepted f ≡ functionOf code
+found f code e = sym (ap functionOf e ∙ function-found f)
+
+other : (a code : ℕ) → (code ≡ a → ⊥) → eqb a code ≡ false
+other a code h = ne-eqb a code (λ e. h (sym e))
+
+-- a code that is no function's
+pub no-function : (code : ℕ)
+    → (code ≡ 0 → ⊥)
+    → (code ≡ 1 → ⊥)
+    → (code ≡ 2 → ⊥)
+    → (code ≡ 3 → ⊥)
+    → (code ≡ 4 → ⊥)
+    → (code ≡ 5 → ⊥)
+    → (code ≡ 6 → ⊥)
+    → (code ≡ 8 → ⊥)
+    → (code ≡ 9 → ⊥)
+    → (code ≡ 13 → ⊥)
+    → (code ≡ 14 → ⊥)
+    → (code ≡ 15 → ⊥)
+    → refused 6 ≡ functionOf code
+unfolding functionOf
+no-function code n0 n1 n2 n3 n4 n5 n6 n8 n9 n13 n14 n15 =
+    simp (
+      other 0 code n0,
+      other 1 code n1,
+      other 2 code n2,
+      other 3 code n3,
+      other 4 code n4,
+      other 5 code n5,
+      other 6 code n6,
+      other 8 code n8,
+      other 9 code n9,
+      other 13 code n13,
+      other 14 code n14,
+      other 15 code n15,
+    )
+
+-- the codes of functions have four bits, and none is that of Extended 1
+pub code-below : (f : Function) → functionCode f < 16
+code-below AllUnitsOff = omega arith
+code-below AllLightsOn = omega arith
+code-below On = omega arith
+code-below Off = omega arith
+code-below Dim = omega arith
+code-below Bright = omega arith
+code-below AllLightsOff = omega arith
+code-below HailRequest = omega arith
+code-below HailAcknowledge = omega arith
+code-below StatusOn = omega arith
+code-below StatusOff = omega arith
+code-below StatusRequest = omega arith
+
+pub code-plain : (f : Function) → functionCode f ≡ extended1 → ⊥
+code-plain AllUnitsOff = omega arith
+code-plain AllLightsOn = omega arith
+code-plain On = omega arith
+code-plain Off = omega arith
+code-plain Dim = omega arith
+code-plain Bright = omega arith
+code-plain AllLightsOff = omega arith
+code-plain HailRequest = omega arith
+code-plain HailAcknowledge = omega arith
+code-plain StatusOn = omega arith
+code-plain StatusOff = omega arith
+code-plain StatusRequest = omega arith
+
+-- a function that is found by a code has it
+found-in : (fs : List Function) (code : ℕ) (f : Function) → functionIn fs code ≡ accepted f → functionCode f ≡ code
+found-in [] code f e = absurd (never e)
+found-in (g ∷ fs) code f e = go (found-in fs code f) (eqb (functionCode g) code) refl e
+  where
+    go : (functionIn fs code ≡ accepted f → functionCode f ≡ code) → (t : Bool) → eqb (functionCode g) code ≡ t
+        → cond t (accepted g) (functionIn fs code) ≡ accepted f → functionCode f ≡ code
+    go rec true et e = ap functionCode (sym (same e)) ∙ eqb-true (functionCode g) code et
+    go rec false et e = rec e
+
+pub found-code : (code : ℕ) (f : Function) → functionOf code ≡ accepted f → functionCode f ≡ code
+unfolding functionOf
+found-code code f e = found-in functions code f e

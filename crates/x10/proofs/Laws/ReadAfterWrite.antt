@@ -1,0 +1,155 @@
+-- What is written is read as it was given. Assumes nothing.
+use mathlib.Core.Path.{_≡_, refl, sym, ap, ap₂, subst, _∙_}
+use mathlib.Core.Bool.{Bool, true, false, _&&_}
+use mathlib.Core.List.{List, [], _∷_, _++_}
+use Prim.Native.Nat.{ℕ, _+_, _-_, _≤_, _<_}
+use native.Mathlib.Omega.{arith}
+use lib.Dec.{eqb, ltb}
+use lib.ListN.{length}
+use lib.Seq.{slice}
+use borrow.Author.Tests.{ltb-false, eqb-false}
+use Rattle.answer.specs.Answer.{Outcome, refused, accepted, refuseIf, andThen}
+use Rattle.x10.specs.declared.Function.{Function}
+use Rattle.x10.specs.Codes.{codeAt, indexOf, houseCode, unitCode, functionCode, extended1}
+use Rattle.x10.specs.Places.{arePlaces, startCode, paired, bits, spelled}
+use Rattle.x10.specs.Pattern.{Message, unit, function, extended, ending, readFunction, readKey, read, standard, extension, write}
+use Rattle.x10.proofs.Laws.Bits.{bits-places, paired-places, spelled-bits}
+use Rattle.x10.proofs.Laws.Codes.{index-of-code, code-small, function-found, code-below, code-plain}
+use Rattle.x10.proofs.Laws.Outcome.{never, passed, same}
+use Rattle.x10.proofs.Laws.Pattern.{ends, read-on, key-unit, key-function, function-known, function-extended, rest-read}
+
+-- data and command are bytes
+abbrev pub Bytes : Message → Type 0
+Bytes (unit house u) = Unit {0}
+Bytes (function house f) = Unit {0}
+Bytes (extended house u d c) = (d < 256) × (c < 256)
+
+places-append : (xs ys : List ℕ) → arePlaces xs ≡ true → arePlaces ys ≡ true → arePlaces (xs ++ ys) ≡ true
+places-append [] ys ex ey = ey
+places-append (x ∷ xs) ys ex ey = go (ltb x 2) (places-append xs ys) ex
+  where
+    go : (t : Bool) → (arePlaces xs ≡ true → arePlaces ys ≡ true → arePlaces (xs ++ ys) ≡ true)
+        → t && arePlaces xs ≡ true → t && arePlaces (xs ++ ys) ≡ true
+    go true rec e = rec e ey
+    go false rec e = e
+
+part-places : (w n : ℕ) → arePlaces (paired (bits w n)) ≡ true
+part-places w n = paired-places (bits w n) (bits-places w n)
+
+standard-places : (h k d : ℕ) → arePlaces (standard h k d) ≡ true
+unfolding standard
+standard-places h k d =
+    places-append startCode (paired (bits 4 h) ++ (paired (bits 4 k) ++ paired (bits 1 d))) refl
+    (places-append (paired (bits 4 h)) (paired (bits 4 k) ++ paired (bits 1 d)) (part-places 4 h)
+    (places-append (paired (bits 4 k)) (paired (bits 1 d)) (part-places 4 k) (part-places 1 d)))
+
+extension-places : (k d c : ℕ) → arePlaces (extension k d c) ≡ true
+unfolding extension
+extension-places k d c =
+    places-append (paired (bits 4 k)) (paired (bits 8 d) ++ paired (bits 8 c)) (part-places 4 k)
+    (places-append (paired (bits 8 d)) (paired (bits 8 c)) (part-places 8 d) (part-places 8 c))
+
+-- house and key of places that begin with a standard pattern
+module _ (h k d : ℕ) (rest : List ℕ) (hh : h < 16) (hk : k < 16) (hd : d < 2) where
+  begins : 22 ≤ length (standard h k d ++ rest)
+  unfolding standard
+  begins = omega arith
+
+  read-begun : read (standard h k d ++ rest) ≡ readKey (standard h k d ++ rest)
+  unfolding standard
+  read-begun = read-on (standard h k d ++ rest) begins (standard-places h k d) refl
+
+  begun-house : spelled (slice 4 12 (standard h k d ++ rest)) ≡ accepted h
+  unfolding standard
+  begun-house = spelled-bits 4 h hh
+
+  begun-key : spelled (slice 12 20 (standard h k d ++ rest)) ≡ accepted k
+  unfolding standard
+  begun-key = spelled-bits 4 k hk
+
+  begun-d16 : spelled (slice 20 22 (standard h k d ++ rest)) ≡ accepted d
+  unfolding standard
+  begun-d16 = spelled-bits 1 d hd
+
+  begun-unit : d ≡ 0 → read (standard h k d ++ rest) ≡ ending 22 (standard h k d ++ rest) (unit (indexOf h) (indexOf k + 1))
+  begun-unit e = read-begun ∙ key-unit (standard h k d ++ rest) h begun-house k begun-key d begun-d16 e
+
+  begun-function : (d ≡ 0 → ⊥) → read (standard h k d ++ rest) ≡ readFunction (standard h k d ++ rest) h k
+  begun-function n = read-begun ∙ key-function (standard h k d ++ rest) h begun-house k begun-key d begun-d16 n
+
+read-unit : (h k : ℕ) → h < 16 → k < 16 → read (standard h k 0) ≡ accepted (unit (indexOf h) (indexOf k + 1))
+unfolding standard
+read-unit h k hh hk =
+    begun-unit h k 0 [] hh hk (omega arith) refl
+    ∙ ends (standard h k 0) (unit (indexOf h) (indexOf k + 1)) 22 (omega arith)
+
+read-function : (h : ℕ) (f : Function) → h < 16 → read (standard h (functionCode f) 1) ≡ accepted (function (indexOf h) f)
+unfolding standard
+read-function h f hh =
+    begun-function h (functionCode f) 1 [] hh (code-below f) (omega arith) (omega arith)
+    ∙ function-known (standard h (functionCode f) 1) h (functionCode f) f (code-plain f) (function-found f)
+    ∙ ends (standard h (functionCode f) 1) (function (indexOf h) f) 22 (omega arith)
+
+read-extended : (h k d c : ℕ) → h < 16 → k < 16 → d < 256 → c < 256
+    → read (standard h extended1 1 ++ extension k d c) ≡ accepted (extended (indexOf h) (indexOf k + 1) d c)
+unfolding standard extension
+read-extended h k d c hh hk hd hc =
+    let ps : List ℕ = standard h extended1 1 ++ extension k d c in
+    begun-function h extended1 1 (extension k d c) hh (omega arith) (omega arith) (omega arith)
+    ∙ function-extended ps h extended1 refl
+    ∙ rest-read ps h (omega arith) (extension-places k d c) k (spelled-bits 4 k hk) d (spelled-bits 8 d hd) c (spelled-bits 8 c hc)
+    ∙ ends ps (extended (indexOf h) (indexOf k + 1) d c) 62 (omega arith)
+
+-- the house and the unit of what was written
+house-back : (h k : ℕ) → houseCode h ≡ accepted k → (h < 16) × (indexOf k ≡ h) × (k < 16)
+unfolding houseCode
+house-back h k e =
+    let r = passed (ltb 15 h) 8 (accepted (codeAt h)) k e in
+    let hh : h < 16 = omega (arith, ltb-false 15 h (r .0)) in
+    (hh, ap indexOf (sym (same (r .1))) ∙ index-of-code h hh, subst (λ (x : ℕ). x < 16) (same (r .1)) (code-small h hh))
+
+unit-back : (u k : ℕ) → unitCode u ≡ accepted k → (indexOf k + 1 ≡ u) × (k < 16)
+unfolding unitCode
+unit-back u k e =
+    let r = passed (eqb u 0) 8 (refuseIf (ltb 15 (u - 1)) 8 (accepted (codeAt (u - 1)))) k e in
+    let s = passed (ltb 15 (u - 1)) 8 (accepted (codeAt (u - 1))) k (r .1) in
+    let n : u ≡ 0 → ⊥ = eqb-false u 0 (r .0) in
+    let hu : u - 1 < 16 = omega (arith, ltb-false 15 (u - 1) (s .0)) in
+    let i : indexOf k ≡ u - 1 = ap indexOf (sym (same (s .1))) ∙ index-of-code (u - 1) hu in
+    (omega arith, subst (λ (x : ℕ). x < 16) (same (s .1)) (code-small (u - 1) hu))
+
+pub read-after-write : (m : Message) (ps : List ℕ) → Bytes m → write m ≡ accepted ps → read ps ≡ accepted m
+unfolding write
+read-after-write (unit h u) ps b e = go (houseCode h) refl (unitCode u) refl e
+  where
+    go : (x : Outcome ℕ) → houseCode h ≡ x → (y : Outcome ℕ) → unitCode u ≡ y
+        → andThen x (λ k. andThen y (λ m. accepted (standard k m 0))) ≡ accepted ps → read ps ≡ accepted (unit h u)
+    go (refused n) ex y ey e = absurd (never e)
+    go (accepted k) ex (refused n) ey e = absurd (never e)
+    go (accepted k) ex (accepted m) ey e =
+        let r = house-back h k ex in
+        let s = unit-back u m ey in
+        ap read (sym (same e))
+        ∙ read-unit k m (r .2) (s .1)
+        ∙ ap₂ (λ (i j : ℕ). accepted (unit i j)) (r .1) (s .0)
+read-after-write (function h f) ps b e = go (houseCode h) refl e
+  where
+    go : (x : Outcome ℕ) → houseCode h ≡ x
+        → andThen x (λ k. accepted (standard k (functionCode f) 1)) ≡ accepted ps → read ps ≡ accepted (function h f)
+    go (refused n) ex e = absurd (never e)
+    go (accepted k) ex e =
+        let r = house-back h k ex in
+        ap read (sym (same e)) ∙ read-function k f (r .2) ∙ ap (λ (i : ℕ). accepted (function i f)) (r .1)
+read-after-write (extended h u d c) ps b e = go (houseCode h) refl (unitCode u) refl e
+  where
+    go : (x : Outcome ℕ) → houseCode h ≡ x → (y : Outcome ℕ) → unitCode u ≡ y
+        → andThen x (λ k. andThen y (λ m. accepted (standard k extended1 1 ++ extension m d c))) ≡ accepted ps
+        → read ps ≡ accepted (extended h u d c)
+    go (refused n) ex y ey e = absurd (never e)
+    go (accepted k) ex (refused n) ey e = absurd (never e)
+    go (accepted k) ex (accepted m) ey e =
+        let r = house-back h k ex in
+        let s = unit-back u m ey in
+        ap read (sym (same e))
+        ∙ read-extended k m d c (r .2) (s .1) (b .0) (b .1)
+        ∙ ap₂ (λ (i j : ℕ). accepted (extended i j d c)) (r .1) (s .0)
