@@ -1,5 +1,6 @@
 pub mod Checked
 pub mod Decided
+pub mod Encoded
 pub mod Framed
 pub mod Item
 pub mod Kinds

@@ -6,6 +6,12 @@ use lib.Dec.{eqb, leb}
 use lib.ListN.{length, take}
 use Rattle.answer.specs.Answer.{Outcome, refused, accepted, refuseIf}
 use Rattle.message.specs.declared.typed.Encoded.{Encoded}
+use Rattle.message.specs.Message.{writeMessage}
+use Rattle.message.specs.declared.log.LogEntry.{LogEntry}
+use Rattle.message.specs.declared.message.Fixed.{Fixed}
+use Rattle.message.specs.declared.message.Fixed.the-variants as F
+use Rattle.message.specs.declared.message.Message.{Message as Counted}
+use Rattle.message.specs.declared.message.Message.the-variants as C
 use Rattle.message.specs.declared.command.Duration.{Duration}
 use Rattle.message.specs.declared.command.Duration.the-variants.{None, Seconds, Minutes, Hours}
 use Rattle.message.specs.declared.command.Command.{Command}
@@ -42,17 +48,78 @@ commandFits (SetCounter v counter) = true
 abbrev pub encoded4 : ℕ → ℕ → ℕ → ℕ → ℕ → Encoded
 encoded4 kind a b c d = record { kind = kind; count = 4; bytes = a ∷ b ∷ c ∷ d ∷ 0 ∷ 0 ∷ 0 ∷ 0 ∷ 0 ∷ 0 ∷ [] }
 
-abbrev pub fixedFits : ℕ
-fixedFits = 0
+abbrev pub encoded2 : ℕ → ℕ → ℕ → Encoded
+encoded2 kind a b = record { kind = kind; count = 2; bytes = a ∷ b ∷ 0 ∷ 0 ∷ 0 ∷ 0 ∷ 0 ∷ 0 ∷ 0 ∷ 0 ∷ [] }
 
-abbrev pub encodedCommand : ℕ
-encodedCommand = 0
+abbrev pub encoded0 : ℕ → Encoded
+encoded0 kind = record { kind = kind; count = 0; bytes = 0 ∷ 0 ∷ 0 ∷ 0 ∷ 0 ∷ 0 ∷ 0 ∷ 0 ∷ 0 ∷ 0 ∷ [] }
 
-abbrev pub encodedFixed : ℕ
-encodedFixed = 0
+-- command, P1, P2 high, P2 low
+abbrev pub encodedParameters : ℕ → ℕ → ℕ → Encoded
+encodedParameters number p1 p2 = encoded4 0x0F number p1 (p2 / 256) (p2 % 256)
 
-abbrev pub writeFixed : ℕ
-writeFixed = 0
+abbrev pub encodedCommand : Command → Encoded
+encodedCommand (Off d unit) = encodedParameters 0 (durationP1 d) unit
+encodedCommand (On d unit) = encodedParameters 1 (durationP1 d) unit
+encodedCommand (AllOff area) = encodedParameters 2 0 area
+encodedCommand (AllOn area) = encodedParameters 3 0 area
+encodedCommand (Level percent unit) = encodedParameters 9 percent unit
+encodedCommand (Decrement counter) = encodedParameters 10 0 counter
+encodedCommand (Increment counter) = encodedParameters 11 0 counter
+encodedCommand (SetCounter v counter) = encodedParameters 12 v counter
 
-abbrev pub writeCounted : ℕ
-writeCounted = 0
+-- the log entry's ten data bytes
+abbrev pub encodedLog : LogEntry → Encoded
+encodedLog e =
+    record {
+      kind = 0x0E;
+      count = 10;
+      bytes =
+          e .number ∷ e .«time_valid» ∷ e .month ∷ e .day ∷ e .hour ∷ e .minute ∷ e .«event_type» ∷ e .«parameter_1»
+          ∷ e .«parameter_2» / 256 ∷ e .«parameter_2» % 256 ∷ [];
+    }
+
+-- the type and the data bytes of a message of fixed length
+abbrev pub encodedFixed : Fixed → Encoded
+encodedFixed F.Acknowledge = encoded0 0x05
+encodedFixed F.NegativeAcknowledge = encoded0 0x06
+encodedFixed F.UploadEventLog = encoded0 0x0D
+encodedFixed F.RequestSystemInformation = encoded0 0x11
+encodedFixed F.RequestSystemStatus = encoded0 0x13
+encodedFixed F.Logout = encoded0 0x21
+encodedFixed F.RequestSystemEvents = encoded0 0x22
+encodedFixed (F.Login a b c d) = encoded4 0x20 a b c d
+encodedFixed (F.ZoneRequest a b) = encoded2 0x15 a b
+encodedFixed (F.LogEntry e) = encodedLog e
+encodedFixed (F.Command c) = encodedCommand c
+
+abbrev pub fixedFits : Fixed → Bool
+fixedFits F.Acknowledge = true
+fixedFits F.NegativeAcknowledge = true
+fixedFits F.UploadEventLog = true
+fixedFits F.RequestSystemInformation = true
+fixedFits F.RequestSystemStatus = true
+fixedFits F.Logout = true
+fixedFits F.RequestSystemEvents = true
+fixedFits (F.Login a b c d) = true
+fixedFits (F.ZoneRequest a b) = true
+fixedFits (F.LogEntry e) = true
+fixedFits (F.Command c) = commandFits c
+
+abbrev pub dataOf : Encoded → List ℕ
+dataOf e = take (e .count) (e .bytes)
+
+-- writing a message of fixed length: 8 for a duration outside its list, then as on a type and data bytes
+unfoldable pub writeFixed : Fixed → Outcome (List ℕ)
+writeFixed f = refuseIf (not (fixedFits f)) 8 (writeMessage (encodedFixed f .kind) (dataOf (encodedFixed f)))
+
+-- writing a list of so many data bytes
+unfoldable pub writeItems : ℕ → ℕ → List ℕ → Outcome (List ℕ)
+writeItems kind size items = refuseIf (not (eqb (length items) size)) 7 (writeMessage kind items)
+
+-- writing a typed message, the items of a list lent as its data bytes
+abbrev pub writeCounted : Counted → List ℕ → Outcome (List ℕ)
+writeCounted (C.Fixed f) items = writeFixed f
+writeCounted (C.ZoneStatus n) items = writeItems 0x16 (2 * n) items
+writeCounted (C.Events n) items = writeItems 0x23 (2 * n) items
+writeCounted (C.MessageStatus n) items = writeItems 0x25 (1 + n / 4) items

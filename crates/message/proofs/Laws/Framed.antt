@@ -3,7 +3,7 @@ use mathlib.Core.Path.{_≡_, refl, sym, ap, ap₂, _∙_}
 use mathlib.Core.List.{List}
 use Prim.Native.Nat.{ℕ}
 use lib.ListN.{length}
-use Rattle.answer.specs.Answer.{Outcome, refused, accepted, andThen, onAccepted, inRoom}
+use Rattle.answer.specs.Answer.{Outcome, refused, accepted, andThen, onAccepted, inRoom, outAfter}
 use Rattle.link.specs.Frame.{Frame, Header, header, readFrame, writeFrame, dataPart}
 use Rattle.link.proofs.Laws.Whole.{data-part}
 use Rattle.message.specs.Message.{Message, messageOf, readMessage, writeMessage, counted}
@@ -36,3 +36,13 @@ module _ (kind : ℕ) (d : List ℕ) (room : ℕ) where
   unfolding writeMessage
   nothing-written n e =
       ap (λ (o : Outcome Message). inRoom room (andThen o (λ m. writeFrame kind d))) (was-refused counted (messageOf kind d) n e)
+
+-- what a call below leaves is what the call above leaves, where their outcomes are the same
+pub leaves-same : (o below : Outcome (List ℕ)) (old final : List ℕ) (w : Outcome ℕ) → o ≡ below
+    → w ≡ onAccepted length below → final ≡ outAfter below old → (w ≡ onAccepted length o) × (final ≡ outAfter o old)
+leaves-same o below old final w e a f =
+    (a ∙ sym (ap (onAccepted length) e), f ∙ sym (ap (λ (x : Outcome (List ℕ)). outAfter x old) e))
+
+pub leaves-nothing : (o : Outcome (List ℕ)) (old : List ℕ) (n : ℕ) → o ≡ refused n
+    → (refused n ≡ onAccepted length o) × (old ≡ outAfter o old)
+leaves-nothing o old n e = leaves-same o (refused n) old old (refused n) e refl refl

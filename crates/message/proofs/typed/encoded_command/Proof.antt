@@ -1,3 +1,6 @@
+use mathlib.Core.Path.{sym, ap, _∙_}
+use Prim.Native.Nat.{ℕ}
+use Rattle.message.specs.Typed.{encodedParameters, encodedCommand}
 use Rattle.message.proofs.Laws.Decided.{decided}
 use borrow.Author.Needs.{needs}
 use Rattle.message.proofs.typed.encoded_command.Statement.{statement}
@@ -81,11 +84,19 @@ encoded-parameters-requires-8 c κs = search needs
 
 -- src/typed.rt:100:1
 returns : tie.Need-returns
-returns c = cc
+returns c =
+    let at = c .before .before .before in
+    c .encoded-parameters .ensures
+    ∙ ap (λ (p : ℕ). encodedParameters 0 p (at .c .given .0 .1 .0)) (c .before .duration-p1 .ensures)
+    ∙ sym (ap encodedCommand (at .c .given .1))
 
 -- src/typed.rt:100:1
 returns-2 : tie.Need-returns-2
-returns-2 c = cc
+returns-2 c =
+    let at = c .before .before .before in
+    c .encoded-parameters2 .ensures
+    ∙ ap (λ (p : ℕ). encodedParameters 1 p (at .c2 .given .0 .1 .0)) (c .before .duration-p12 .ensures)
+    ∙ sym (ap encodedCommand (at .c2 .given .1))
 
 -- src/typed.rt:100:1
 returns-3 : tie.Need-returns-3

@@ -1,3 +1,5 @@
+use mathlib.Core.Path.{sym, ap, _∙_}
+use Rattle.message.specs.Typed.{encodedFixed}
 use Rattle.message.proofs.Laws.Decided.{decided}
 use borrow.Author.Needs.{needs}
 use Rattle.message.proofs.typed.encoded_fixed.Statement.{statement}
@@ -128,7 +130,7 @@ returns-7 c = cc
 
 -- src/typed.rt:158:1
 returns-8 : tie.Need-returns-8
-returns-8 c = cc
+returns-8 c = c .encoded-4 .ensures ∙ sym (ap encodedFixed (c .before .before .f .given .1))
 
 -- src/typed.rt:158:1
 returns-9 : tie.Need-returns-9
@@ -136,7 +138,7 @@ returns-9 c = cc
 
 -- src/typed.rt:158:1
 returns-10 : tie.Need-returns-10
-returns-10 c = cc
+returns-10 c = c .encoded-log .ensures ∙ sym (ap encodedFixed (c .before .before .f3 .given .1))
 
 -- src/typed.rt:158:1
 returns-11 : tie.Need-returns-11

@@ -1,3 +1,12 @@
+use mathlib.Core.Path.{refl, sym, ap, _∙_}
+use mathlib.Core.List.{List}
+use Prim.Native.Nat.{ℕ}
+use lib.ListN.{length}
+use Rattle.answer.specs.Answer.{Outcome, refuseIf, inRoom}
+use Rattle.message.proofs.Laws.Framed.{leaves-same, leaves-nothing}
+use Rattle.message.specs.Typed.{writeCounted}
+use Rattle.message.specs.declared.message.Message.{Message as Counted}
+use Rattle.message.specs.declared.message.Message.the-variants as C
 use Rattle.message.proofs.Laws.Decided.{decided}
 use borrow.Author.Needs.{needs}
 use Rattle.message.proofs.typed.write.Statement.{statement}
@@ -69,7 +78,13 @@ same-length c = search needs
 
 -- src/typed.rt:216:1
 returns : tie.Need-returns
-returns c = search decided
+returns c =
+    let at = c .before .before .before .before .before in
+    let a = at .before .before .before .before .args in
+    let items = a .items .now in
+    leaves-same (inRoom (length (a .out .now)) (writeCounted (a .m) items)) (inRoom (length (a .out .now)) (writeCounted (C.Fixed (at .m .given .0 .0)) items)) (a .out .now) _ _
+    (ap (λ (m : Counted). inRoom (length (a .out .now)) (writeCounted m items)) (at .m .given .1))
+    (c .before .before .write-fixed .ensures .0) (c .before .before .write-fixed .ensures .1)
 
 -- src/typed.rt:216:1
 same-length-2 : tie.Need-same-length-2
@@ -77,7 +92,13 @@ same-length-2 c = search needs
 
 -- src/typed.rt:216:1
 returns-2 : tie.Need-returns-2
-returns-2 c = search decided
+returns-2 c =
+    let at = c .before .before .before .before .before in
+    let a = at .before .before .before .before .args in
+    let items = a .items .now in
+    leaves-same (inRoom (length (a .out .now)) (writeCounted (a .m) items)) (inRoom (length (a .out .now)) (writeCounted (C.ZoneStatus (at .m2 .given .0 .0)) items)) (a .out .now) _ _
+    (ap (λ (m : Counted). inRoom (length (a .out .now)) (writeCounted m items)) (at .m2 .given .1))
+    (c .before .before .write-items .ensures .0) (c .before .before .write-items .ensures .1)
 
 -- src/typed.rt:216:1
 same-length-3 : tie.Need-same-length-3
@@ -85,7 +106,13 @@ same-length-3 c = search needs
 
 -- src/typed.rt:216:1
 returns-3 : tie.Need-returns-3
-returns-3 c = search decided
+returns-3 c =
+    let at = c .before .before .before .before .before in
+    let a = at .before .before .before .before .args in
+    let items = a .items .now in
+    leaves-same (inRoom (length (a .out .now)) (writeCounted (a .m) items)) (inRoom (length (a .out .now)) (writeCounted (C.Events (at .m3 .given .0 .0)) items)) (a .out .now) _ _
+    (ap (λ (m : Counted). inRoom (length (a .out .now)) (writeCounted m items)) (at .m3 .given .1))
+    (c .before .before .write-items2 .ensures .0) (c .before .before .write-items2 .ensures .1)
 
 -- src/typed.rt:216:1
 same-length-4 : tie.Need-same-length-4
@@ -93,7 +120,13 @@ same-length-4 c = search needs
 
 -- src/typed.rt:216:1
 returns-4 : tie.Need-returns-4
-returns-4 c = search decided
+returns-4 c =
+    let at = c .before .before .before .before .before in
+    let a = at .before .before .before .before .args in
+    let items = a .items .now in
+    leaves-same (inRoom (length (a .out .now)) (writeCounted (a .m) items)) (inRoom (length (a .out .now)) (writeCounted (C.MessageStatus (at .m4 .given .0 .0)) items)) (a .out .now) _ _
+    (ap (λ (m : Counted). inRoom (length (a .out .now)) (writeCounted m items)) (at .m4 .given .1))
+    (c .before .before .write-items3 .ensures .0) (c .before .before .write-items3 .ensures .1)
 
 pub write-spec : {M : Type 1} → statement M
 write-spec =

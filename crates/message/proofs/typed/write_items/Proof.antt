@@ -1,3 +1,13 @@
+use mathlib.Core.Path.{refl, sym, ap, _∙_}
+use mathlib.Core.List.{List}
+use Prim.Native.Nat.{ℕ}
+use lib.ListN.{length}
+use Rattle.answer.specs.Answer.{Outcome, refuseIf, inRoom}
+use Rattle.message.proofs.Laws.Framed.{leaves-same, leaves-nothing}
+use borrow.Author.Tests.{eq-eqb, ne-eqb}
+use Rattle.message.specs.Message.{writeMessage}
+use Rattle.message.specs.Typed.{writeItems}
+use Rattle.message.proofs.Laws.Checked.{refuses, passes}
 use Rattle.message.proofs.Laws.Decided.{decided}
 use borrow.Author.Needs.{needs}
 use Rattle.message.proofs.typed.write_items.Statement.{statement}
@@ -8,7 +18,13 @@ use Rattle.message.proofs.message.write.Reads as write-reads
 
 -- src/typed.rt:210:9
 returns : tie.Need-returns
-returns c = search decided
+unfolding writeItems
+returns c =
+    let a = c .before .before .before .args in
+    let items = a .items .now in
+    leaves-nothing (inRoom (length (a .out .now)) (writeItems (a .kind) (a .size) items)) (a .out .now) 7
+    (ap (inRoom (length (a .out .now)))
+    (sym (refuses 7 (writeMessage (a .kind) items) refl (ne-eqb (length items) (a .size) (c .if1 .taken)))))
 
 -- src/typed.rt:212:5
 write-requires : tie.Need-write-requires
@@ -20,7 +36,16 @@ same-length c = search needs
 
 -- src/typed.rt:205:1
 returns-2 : tie.Need-returns-2
-returns-2 c = search decided
+unfolding writeItems
+returns-2 c =
+    let at = c .before .before .before .before in
+    let a = at .before .before .before .args in
+    let items = a .items .now in
+    leaves-same (inRoom (length (a .out .now)) (writeItems (a .kind) (a .size) items)) (inRoom (length (a .out .now)) (writeMessage (a .kind) items))
+    (a .out .now) _ _
+    (ap (inRoom (length (a .out .now)))
+    (sym (passes 7 (writeMessage (a .kind) items) refl (eq-eqb (length items) (a .size) (at .if1 .left)))))
+    (c .before .before .write .ensures .0) (c .before .before .write .ensures .1)
 
 pub write-items-spec : {M : Type 1} → statement M
 write-items-spec = tie.close (tie.spec returns write-requires same-length returns-2)
