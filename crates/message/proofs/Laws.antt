@@ -1,7 +1,10 @@
 pub mod Checked
 pub mod Decided
+pub mod Decode
+pub mod Duration
 pub mod Encoded
 pub mod Framed
 pub mod Item
 pub mod Kinds
 pub mod Lists
+pub mod RoundTrip

@@ -6,7 +6,15 @@ use lib.Dec.{eqb, leb}
 use lib.ListN.{length, take}
 use Rattle.answer.specs.Answer.{Outcome, refused, accepted, refuseIf}
 use Rattle.message.specs.declared.typed.Encoded.{Encoded}
-use Rattle.message.specs.Message.{writeMessage}
+use Rattle.message.specs.Message.{Message, fixed, zoneStatus, events, messageStatus, writeMessage}
+use Rattle.message.specs.declared.items.Condition.{Condition}
+use Rattle.message.specs.declared.items.Condition.the-variants as Condition
+use Rattle.message.specs.declared.items.LatchedAlarm.{LatchedAlarm}
+use Rattle.message.specs.declared.items.LatchedAlarm.the-variants as LatchedAlarm
+use Rattle.message.specs.declared.items.Arming.{Arming}
+use Rattle.message.specs.declared.items.Arming.the-variants as Arming
+use Rattle.message.specs.declared.items.Zone.{Zone}
+use Rattle.message.specs.declared.items.TextMessage.{TextMessage}
 use Rattle.message.specs.declared.log.LogEntry.{LogEntry}
 use Rattle.message.specs.declared.message.Fixed.{Fixed}
 use Rattle.message.specs.declared.message.Fixed.the-variants as F
@@ -123,3 +131,54 @@ writeCounted (C.Fixed f) items = writeFixed f
 writeCounted (C.ZoneStatus n) items = writeItems 0x16 (2 * n) items
 writeCounted (C.Events n) items = writeItems 0x23 (2 * n) items
 writeCounted (C.MessageStatus n) items = writeItems 0x25 (1 + n / 4) items
+
+-- a zone's status byte, and the data bytes of zones
+abbrev pub conditionBits : Condition → ℕ
+conditionBits Condition.Secure = 0
+conditionBits Condition.NotReady = 1
+conditionBits Condition.Trouble = 2
+
+abbrev pub latchedBits : LatchedAlarm → ℕ
+latchedBits LatchedAlarm.Secure = 0
+latchedBits LatchedAlarm.Tripped = 1
+latchedBits LatchedAlarm.Reset = 2
+
+abbrev pub armingBits : Arming → ℕ
+armingBits Arming.Disarmed = 0
+armingBits Arming.Armed = 1
+armingBits Arming.BypassedByUser = 2
+armingBits Arming.BypassedBySystem = 3
+
+abbrev pub flag : Bool → ℕ
+flag true = 1
+flag false = 0
+
+abbrev pub statusByte : Zone → ℕ
+statusByte z = conditionBits (z .condition) + 4 * latchedBits (z .«latched_alarm») + 16 * armingBits (z .arming) + 64 * flag (z .«unacknowledged_trouble»)
+
+abbrev pub zoneBytes : List Zone → List ℕ
+zoneBytes [] = []
+zoneBytes (z ∷ zs) = statusByte z ∷ z .«loop_reading» ∷ zoneBytes zs
+
+-- the data bytes of events, high byte first
+abbrev pub eventBytes : List ℕ → List ℕ
+eventBytes [] = []
+eventBytes (e ∷ es) = e / 256 ∷ e % 256 ∷ eventBytes es
+
+-- the two bits of a text message, and the data bytes of text messages, four a byte
+abbrev pub textBits : TextMessage → ℕ
+textBits t = flag (t .displayed) + 2 * flag (t .«not_acknowledged»)
+
+abbrev pub textBytes : List TextMessage → List ℕ
+textBytes [] = []
+textBytes (a ∷ []) = []
+textBytes (a ∷ b ∷ []) = []
+textBytes (a ∷ b ∷ c ∷ []) = []
+textBytes (a ∷ b ∷ c ∷ d ∷ ts) = (64 * textBits a + 16 * textBits b + 4 * textBits c + textBits d) ∷ textBytes ts
+
+-- writing a message with its list: text messages come in fours, else 7
+unfoldable pub write : Message → Outcome (List ℕ)
+write (fixed f) = writeFixed f
+write (zoneStatus zs) = writeMessage 0x16 (zoneBytes zs)
+write (events es) = writeMessage 0x23 (eventBytes es)
+write (messageStatus ts) = refuseIf (not (eqb (length ts % 4) 0)) 7 (writeMessage 0x25 (0 ∷ textBytes ts))
