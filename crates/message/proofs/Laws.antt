@@ -2,6 +2,7 @@ pub mod Checked
 pub mod Decided
 pub mod Decode
 pub mod Duration
+pub mod Encode
 pub mod Encoded
 pub mod Framed
 pub mod Item

@@ -79,7 +79,7 @@ log-same e =
       minute = e .minute;
       «event_type» = e .«event_type»;
       «parameter_1» = e .«parameter_1»;
-      «parameter_2» = div-add-mod' (e .«parameter_2») 256 i
+      «parameter_2» = div-add-mod' (e .«parameter_2») 256 i;
     }
 
 pub log-back : (e r : LogEntry) → readLog (dataOf (encodedLog e)) ≡ accepted r → r ≡ e
@@ -107,8 +107,8 @@ fixed-back (F.LogEntry x) fits m e =
     w .2 ∙ ap (λ (y : LogEntry). fixed (F.LogEntry y)) (log-back x (w .0) (w .1))
 fixed-back (F.Command x) fits m e =
     let w =
-      was-accepted (λ y. fixed (F.Command y)) (readCommand (dataOf (encodedCommand x))) m
-      (sym e ∙ ap (λ (k : ℕ). messageOf k (dataOf (encodedCommand x))) (command-kind x)) in
+    was-accepted (λ y. fixed (F.Command y)) (readCommand (dataOf (encodedCommand x))) m
+    (sym e ∙ ap (λ (k : ℕ). messageOf k (dataOf (encodedCommand x))) (command-kind x)) in
     w .2 ∙ ap (λ (y : Command). fixed (F.Command y)) (command-back x fits (w .0) (w .1))
 
 -- ---- lists
@@ -161,15 +161,15 @@ bits-apart c l a t hc hl ha ht s e = (omega arith, omega arith, omega arith, ome
 zone-back : (z : Zone) → zoneOf (statusByte z) (z .«loop_reading») ≡ z
 zone-back z =
     let b =
-      bits-apart (conditionBits (z .condition)) (latchedBits (z .«latched_alarm»)) (armingBits (z .arming)) (flag (z .«unacknowledged_trouble»))
-      (condition-below (z .condition)) (latched-below (z .«latched_alarm»)) (arming-below (z .arming)) (flag-below (z .«unacknowledged_trouble»))
-      (statusByte z) refl in
+    bits-apart (conditionBits (z .condition)) (latchedBits (z .«latched_alarm»)) (armingBits (z .arming)) (flag (z .«unacknowledged_trouble»))
+    (condition-below (z .condition)) (latched-below (z .«latched_alarm»)) (arming-below (z .arming)) (flag-below (z .«unacknowledged_trouble»))
+    (statusByte z) refl in
     λ i. record {
       condition = condition-back (z .condition) (statusByte z) (b .0) i;
       «latched_alarm» = latched-back (z .«latched_alarm») (statusByte z) (b .1) i;
       arming = arming-back (z .arming) (statusByte z) (b .2) i;
       «unacknowledged_trouble» = flag-back (z .«unacknowledged_trouble») (statusByte z / 64 % 2) (b .3) i;
-      «loop_reading» = z .«loop_reading»
+      «loop_reading» = z .«loop_reading»;
     }
 
 pub zones-back : (zs : List Zone) → zones (zoneBytes zs) ≡ zs

@@ -1,11 +1,11 @@
 -- Items of a whole message: what each type's reader accepts, and that every other type is 6. Assumes nothing.
-use mathlib.Core.Path.{_≡_, refl, sym, ap, ap₂, _∙_}
+use mathlib.Core.Path.{_≡_, refl, sym, ap, ap₂, subst, _∙_}
 use mathlib.Core.Bool.{Bool, true, false, cond, not}
 use mathlib.Core.List.{List}
 use Prim.Native.Nat.{ℕ, _%_}
 use lib.Dec.{eqb, ltb}
 use lib.ListN.{length, getD, drop}
-use borrow.Author.Tests.{eqb-true}
+use borrow.Author.Tests.{eqb-true, not-false}
 use Rattle.answer.specs.Answer.{Outcome, refused, accepted, refuseIf, andThen, onAccepted}
 use Rattle.answer.proofs.Laws.Test.{passed, not-accepted}
 use Rattle.link.specs.Frame.{Frame, Header, header, readFrame, dataPart}
@@ -48,40 +48,41 @@ texts-of d m e =
     let b = passed (not (eqb (getD d 0 0) 0)) 8 _ m (a .1) in
     cc (b .1)
 
--- an item reader g refuses with 6 whatever a reader accepts
-module _ {A : Type 0} (g : Message → Outcome A) where
-  abbrev pub Other : Outcome Message → Type 0
-  Other o = (m : Message) → o ≡ accepted m → g m ≡ refused 6
+-- what holds of whatever a reader accepts
+module _ (P : Message → Type 0) where
+  abbrev pub Every : Outcome Message → Type 0
+  Every o = (m : Message) → o ≡ accepted m → P m
 
-  pub other-value : (m : Message) → g m ≡ refused 6 → Other (accepted m)
-  other-value m h n e = let same : n ≡ m = cc in ap g same ∙ h
+  pub every-value : (m : Message) → P m → Every (accepted m)
+  every-value m h n e = let same : m ≡ n = cc in subst P same h
 
-  pub other-check : (t : Bool) (n : ℕ) (later : Outcome Message) → Other later → Other (refuseIf t n later)
-  other-check true n later h m e = absurd (not-accepted n m e)
-  other-check false n later h m e = h m e
+  pub every-check : (t : Bool) (n : ℕ) (later : Outcome Message) → (t ≡ false → Every later) → Every (refuseIf t n later)
+  every-check true n later h m e = absurd (not-accepted n m e)
+  every-check false n later h m e = h refl m e
 
-  other-cond : (t : Bool) (a b : Outcome Message) → (t ≡ true → Other a) → Other b → Other (cond t a b)
-  other-cond true a b h k = h refl
-  other-cond false a b h k = k
+  every-cond : (t : Bool) (a b : Outcome Message) → (t ≡ true → Every a) → Every b → Every (cond t a b)
+  every-cond true a b h k = h refl
+  every-cond false a b h k = k
 
-  pub other-mapped : {X : Type 0} (f : X → Message) (o : Outcome X) → ((x : X) → g (f x) ≡ refused 6) → Other (onAccepted f o)
-  other-mapped f (refused n) h m e = absurd (not-accepted n m e)
-  other-mapped f (accepted x) h m e = other-value (f x) (h x) m e
+  pub every-mapped : {X : Type 0} (f : X → Message) (o : Outcome X) → ((x : X) → o ≡ accepted x → P (f x)) → Every (onAccepted f o)
+  every-mapped f (refused n) h m e = absurd (not-accepted n m e)
+  every-mapped f (accepted x) h m e = every-value (f x) (h x refl) m e
 
-  -- of each type, unless it is another
-  pub others : (kind : ℕ) (d : List ℕ) → Other (readPlain kind d) → (kind ≡ 0x20 → Other (readLogin d)) → (kind ≡ 0x15 → Other (readZoneRequest d))
-      → (kind ≡ 0x16 → Other (readZoneStatus d)) → (kind ≡ 0x23 → Other (readEvents d)) → (kind ≡ 0x25 → Other (readMessageStatus d))
-      → (kind ≡ 0x0E → Other (logMessage d)) → (kind ≡ 0x0F → Other (commandMessage d)) → Other (messageOf kind d)
+  -- type by type
+  pub every-type : (kind : ℕ) (d : List ℕ) → (plainListed kind ≡ true → Every (readPlain kind d)) → (kind ≡ 0x20 → Every (readLogin d))
+      → (kind ≡ 0x15 → Every (readZoneRequest d)) → (kind ≡ 0x16 → Every (readZoneStatus d)) → (kind ≡ 0x23 → Every (readEvents d))
+      → (kind ≡ 0x25 → Every (readMessageStatus d)) → (kind ≡ 0x0E → Every (logMessage d)) → (kind ≡ 0x0F → Every (commandMessage d))
+      → Every (messageOf kind d)
   unfolding messageOf
-  others kind d plain login request zone event text log command =
-      other-cond (plainListed kind) _ _ (λ e. plain)
-      (other-cond (eqb kind 0x20) _ _ (λ e. login (eqb-true kind 0x20 e))
-      (other-cond (eqb kind 0x15) _ _ (λ e. request (eqb-true kind 0x15 e))
-      (other-cond (eqb kind 0x16) _ _ (λ e. zone (eqb-true kind 0x16 e))
-      (other-cond (eqb kind 0x23) _ _ (λ e. event (eqb-true kind 0x23 e))
-      (other-cond (eqb kind 0x25) _ _ (λ e. text (eqb-true kind 0x25 e))
-      (other-cond (eqb kind 0x0E) _ _ (λ e. log (eqb-true kind 0x0E e))
-      (other-cond (eqb kind 0x0F) _ _ (λ e. command (eqb-true kind 0x0F e))
+  every-type kind d plain login request zone event text log command =
+      every-cond (plainListed kind) _ _ plain
+      (every-cond (eqb kind 0x20) _ _ (λ e. login (eqb-true kind 0x20 e))
+      (every-cond (eqb kind 0x15) _ _ (λ e. request (eqb-true kind 0x15 e))
+      (every-cond (eqb kind 0x16) _ _ (λ e. zone (eqb-true kind 0x16 e))
+      (every-cond (eqb kind 0x23) _ _ (λ e. event (eqb-true kind 0x23 e))
+      (every-cond (eqb kind 0x25) _ _ (λ e. text (eqb-true kind 0x25 e))
+      (every-cond (eqb kind 0x0E) _ _ (λ e. log (eqb-true kind 0x0E e))
+      (every-cond (eqb kind 0x0F) _ _ (λ e. command (eqb-true kind 0x0F e))
       (λ m e. absurd (not-accepted 6 m e)))))))))
 
 -- the type and count of a whole message, from its frame's and its data part's
@@ -148,49 +149,58 @@ module _ {A : Type 0} (g : Message → Outcome A) (s : List ℕ) where
       by (refused r) p q = absurd (not-accepted r (record { kind = k; count = n }) q)
       by (accepted f) p q = inner f p (messageOf (f .kind) (f .bytes)) refl q
 
--- ---- each type's reader, to an item reader of another type
+-- ---- each type's reader: what holds of its message
 
-module _ {A : Type 0} (g : Message → Outcome A) where
-  plain-other : (kind : ℕ) (d : List ℕ) → g (fixed (plainOf kind)) ≡ refused 6 → Other g (readPlain kind d)
+module _ (P : Message → Type 0) where
+  pub every-plain : (kind : ℕ) (d : List ℕ) → (length d ≡ 0 → P (fixed (plainOf kind))) → Every P (readPlain kind d)
   unfolding readPlain
-  plain-other kind d h = other-check g (not (eqb (length d) 0)) 7 _ (other-value g _ h)
+  every-plain kind d h =
+      every-check P (not (eqb (length d) 0)) 7 _ (λ e. every-value P _ (h (eqb-true (length d) 0 (not-false (eqb (length d) 0) e))))
 
-  login-other : (d : List ℕ) → ((p q r s : ℕ) → g (fixed (F.Login p q r s)) ≡ refused 6) → Other g (readLogin d)
+  pub every-login : (d : List ℕ) → (length d ≡ 4 → P (fixed (F.Login (getD d 0 0) (getD d 1 0) (getD d 2 0) (getD d 3 0)))) → Every P (readLogin d)
   unfolding readLogin
-  login-other d h =
-      other-check g (not (eqb (length d) 4)) 7 _
-      (other-check g (not (digitsListed (getD d 0 0) (getD d 1 0) (getD d 2 0) (getD d 3 0))) 8 _
-      (other-value g _ (h (getD d 0 0) (getD d 1 0) (getD d 2 0) (getD d 3 0))))
+  every-login d h =
+      every-check P (not (eqb (length d) 4)) 7 _ (λ e.
+      every-check P (not (digitsListed (getD d 0 0) (getD d 1 0) (getD d 2 0) (getD d 3 0))) 8 _ (λ _.
+      every-value P _ (h (eqb-true (length d) 4 (not-false (eqb (length d) 4) e)))))
 
-  request-other : (d : List ℕ) → ((p q : ℕ) → g (fixed (F.ZoneRequest p q)) ≡ refused 6) → Other g (readZoneRequest d)
+  pub every-request : (d : List ℕ) → (length d ≡ 2 → P (fixed (F.ZoneRequest (getD d 0 0) (getD d 1 0)))) → Every P (readZoneRequest d)
   unfolding readZoneRequest
-  request-other d h =
-      other-check g (not (eqb (length d) 2)) 7 _
-      (other-check g (not (orderListed (getD d 0 0) (getD d 1 0))) 8 _ (other-value g _ (h (getD d 0 0) (getD d 1 0))))
+  every-request d h =
+      every-check P (not (eqb (length d) 2)) 7 _ (λ e.
+      every-check P (not (orderListed (getD d 0 0) (getD d 1 0))) 8 _ (λ _.
+      every-value P _ (h (eqb-true (length d) 2 (not-false (eqb (length d) 2) e)))))
 
-  zones-other : (d : List ℕ) → ((zs : List Zone) → g (zoneStatus zs) ≡ refused 6) → Other g (readZoneStatus d)
+  pub every-zones : (d : List ℕ) → (length d % 2 ≡ 0 → zonesListed d ≡ true → P (zoneStatus (zones d))) → Every P (readZoneStatus d)
   unfolding readZoneStatus
-  zones-other d h =
-      other-check g (not (eqb (length d % 2) 0)) 7 _
-      (other-check g (eqb (length d) 0) 7 _ (other-check g (ltb 64 (length d)) 7 _ (other-check g (not (zonesListed d)) 8 _ (other-value g _ (h (zones d))))))
+  every-zones d h =
+      every-check P (not (eqb (length d % 2) 0)) 7 _ (λ e.
+      every-check P (eqb (length d) 0) 7 _ (λ _.
+      every-check P (ltb 64 (length d)) 7 _ (λ _.
+      every-check P (not (zonesListed d)) 8 _ (λ l.
+      every-value P _ (h (eqb-true (length d % 2) 0 (not-false (eqb (length d % 2) 0) e)) (not-false (zonesListed d) l))))))
 
-  events-other : (d : List ℕ) → ((es : List ℕ) → g (events es) ≡ refused 6) → Other g (readEvents d)
+  pub every-events : (d : List ℕ) → (length d % 2 ≡ 0 → P (events (words d))) → Every P (readEvents d)
   unfolding readEvents
-  events-other d h =
-      other-check g (not (eqb (length d % 2) 0)) 7 _ (other-check g (ltb 64 (length d)) 7 _ (other-value g _ (h (words d))))
+  every-events d h =
+      every-check P (not (eqb (length d % 2) 0)) 7 _ (λ e.
+      every-check P (ltb 64 (length d)) 7 _ (λ _.
+      every-value P _ (h (eqb-true (length d % 2) 0 (not-false (eqb (length d % 2) 0) e)))))
 
-  texts-other : (d : List ℕ) → ((ts : List TextMessage) → g (messageStatus ts) ≡ refused 6) → Other g (readMessageStatus d)
+  pub every-texts : (d : List ℕ) → (statusLength (length d) ≡ true → getD d 0 0 ≡ 0 → P (messageStatus (texts (drop 1 d)))) → Every P (readMessageStatus d)
   unfolding readMessageStatus
-  texts-other d h =
-      other-check g (not (statusLength (length d))) 7 _ (other-check g (not (eqb (getD d 0 0) 0)) 8 _ (other-value g _ (h (texts (drop 1 d)))))
+  every-texts d h =
+      every-check P (not (statusLength (length d))) 7 _ (λ l.
+      every-check P (not (eqb (getD d 0 0) 0)) 8 _ (λ z.
+      every-value P _ (h (not-false (statusLength (length d)) l) (eqb-true (getD d 0 0) 0 (not-false (eqb (getD d 0 0) 0) z)))))
 
-  log-other : (d : List ℕ) → ((e : LogEntry) → g (fixed (F.LogEntry e)) ≡ refused 6) → Other g (logMessage d)
+  pub every-log : (d : List ℕ) → ((e : LogEntry) → readLog d ≡ accepted e → P (fixed (F.LogEntry e))) → Every P (logMessage d)
   unfolding logMessage
-  log-other d h = other-mapped g (λ e. fixed (F.LogEntry e)) (readLog d) h
+  every-log d h = every-mapped P (λ e. fixed (F.LogEntry e)) (readLog d) h
 
-  command-other : (d : List ℕ) → ((c : Command) → g (fixed (F.Command c)) ≡ refused 6) → Other g (commandMessage d)
+  pub every-command : (d : List ℕ) → ((c : Command) → readCommand d ≡ accepted c → P (fixed (F.Command c))) → Every P (commandMessage d)
   unfolding commandMessage
-  command-other d h = other-mapped g (λ c. fixed (F.Command c)) (readCommand d) h
+  every-command d h = every-mapped P (λ c. fixed (F.Command c)) (readCommand d) h
 
 -- one of the seven
 seven : (P : Fixed → Type 0) → P F.Acknowledge → P F.NegativeAcknowledge → P F.UploadEventLog → P F.RequestSystemInformation
@@ -220,11 +230,11 @@ module _ (s : List ℕ) (k n : ℕ) (h : messageHeader s ≡ accepted (record { 
     pub not-zone : (k ≡ 0x16 → ⊥) → andThen (readMessage s) (zoneItem i) ≡ refused 6
     unfolding d
     not-zone other =
-        let g = zoneItem i in
-        found g s k n h _
-        (others g k d (plain-other g k d refl) (λ e. login-other g d (λ p q r t. refl)) (λ e. request-other g d (λ p q. refl))
-        (λ e. absurd (other e)) (λ e. events-other g d (λ x. refl)) (λ e. texts-other g d (λ x. refl))
-        (λ e. log-other g d (λ x. refl)) (λ e. command-other g d (λ x. refl)))
+        let P : Message → Type 0 = λ m. zoneItem i m ≡ refused 6 in
+        found (zoneItem i) s k n h _
+        (every-type P k d (λ _. every-plain P k d (λ _. refl)) (λ e. every-login P d (λ _. refl)) (λ e. every-request P d (λ _. refl))
+        (λ e. absurd (other e)) (λ e. every-events P d (λ _. refl)) (λ e. every-texts P d (λ _ _. refl))
+        (λ e. every-log P d (λ x _. refl)) (λ e. every-command P d (λ x _. refl)))
 
     pub event-found : k ≡ 0x23 → andThen (readMessage s) (eventItem i) ≡ itemAt (words (dataPart s n)) i
     unfolding messageOf plainListed
@@ -235,11 +245,11 @@ module _ (s : List ℕ) (k n : ℕ) (h : messageHeader s ≡ accepted (record { 
     pub not-event : (k ≡ 0x23 → ⊥) → andThen (readMessage s) (eventItem i) ≡ refused 6
     unfolding d
     not-event other =
-        let g = eventItem i in
-        found g s k n h _
-        (others g k d (plain-other g k d refl) (λ e. login-other g d (λ p q r t. refl)) (λ e. request-other g d (λ p q. refl))
-        (λ e. zones-other g d (λ x. refl)) (λ e. absurd (other e)) (λ e. texts-other g d (λ x. refl))
-        (λ e. log-other g d (λ x. refl)) (λ e. command-other g d (λ x. refl)))
+        let P : Message → Type 0 = λ m. eventItem i m ≡ refused 6 in
+        found (eventItem i) s k n h _
+        (every-type P k d (λ _. every-plain P k d (λ _. refl)) (λ e. every-login P d (λ _. refl)) (λ e. every-request P d (λ _. refl))
+        (λ e. every-zones P d (λ _ _. refl)) (λ e. absurd (other e)) (λ e. every-texts P d (λ _ _. refl))
+        (λ e. every-log P d (λ x _. refl)) (λ e. every-command P d (λ x _. refl)))
 
     pub text-found : k ≡ 0x25 → andThen (readMessage s) (textItem i) ≡ itemAt (texts (drop 1 (dataPart s n))) i
     unfolding messageOf plainListed
@@ -250,11 +260,11 @@ module _ (s : List ℕ) (k n : ℕ) (h : messageHeader s ≡ accepted (record { 
     pub not-text : (k ≡ 0x25 → ⊥) → andThen (readMessage s) (textItem i) ≡ refused 6
     unfolding d
     not-text other =
-        let g = textItem i in
-        found g s k n h _
-        (others g k d (plain-other g k d refl) (λ e. login-other g d (λ p q r t. refl)) (λ e. request-other g d (λ p q. refl))
-        (λ e. zones-other g d (λ x. refl)) (λ e. events-other g d (λ x. refl)) (λ e. absurd (other e))
-        (λ e. log-other g d (λ x. refl)) (λ e. command-other g d (λ x. refl)))
+        let P : Message → Type 0 = λ m. textItem i m ≡ refused 6 in
+        found (textItem i) s k n h _
+        (every-type P k d (λ _. every-plain P k d (λ _. refl)) (λ e. every-login P d (λ _. refl)) (λ e. every-request P d (λ _. refl))
+        (λ e. every-zones P d (λ _ _. refl)) (λ e. every-events P d (λ _. refl)) (λ e. absurd (other e))
+        (λ e. every-log P d (λ x _. refl)) (λ e. every-command P d (λ x _. refl)))
 
     pub log-found : k ≡ 0x0E → andThen (readMessage s) (logItem i) ≡ andThen (readLog (dataPart s n)) (λ x. logField x i)
     unfolding messageOf plainListed logMessage
@@ -266,12 +276,11 @@ module _ (s : List ℕ) (k n : ℕ) (h : messageHeader s ≡ accepted (record { 
     pub not-log : (k ≡ 0x0E → ⊥) → andThen (readMessage s) (logItem i) ≡ refused 6
     unfolding d
     not-log other =
-        let g = logItem i in
-        found g s k n h _
-        (others g k d (plain-other g k d (seven (λ f. g (fixed f) ≡ refused 6) refl refl refl refl refl refl refl k))
-        (λ e. login-other g d (λ p q r t. refl)) (λ e. request-other g d (λ p q. refl))
-        (λ e. zones-other g d (λ x. refl)) (λ e. events-other g d (λ x. refl)) (λ e. texts-other g d (λ x. refl))
-        (λ e. absurd (other e)) (λ e. command-other g d (λ x. refl)))
+        let P : Message → Type 0 = λ m. logItem i m ≡ refused 6 in
+        found (logItem i) s k n h _
+        (every-type P k d (λ _. every-plain P k d (λ _. seven (λ f. P (fixed f)) refl refl refl refl refl refl refl k)) (λ e. every-login P d (λ _. refl)) (λ e. every-request P d (λ _. refl))
+        (λ e. every-zones P d (λ _ _. refl)) (λ e. every-events P d (λ _. refl)) (λ e. every-texts P d (λ _ _. refl))
+        (λ e. absurd (other e)) (λ e. every-command P d (λ x _. refl)))
 
   pub command-found : k ≡ 0x0F → andThen (readMessage s) commandItem ≡ readCommand (dataPart s n)
   unfolding messageOf plainListed commandMessage
@@ -283,9 +292,8 @@ module _ (s : List ℕ) (k n : ℕ) (h : messageHeader s ≡ accepted (record { 
   pub not-command : (k ≡ 0x0F → ⊥) → andThen (readMessage s) commandItem ≡ refused 6
   unfolding d
   not-command other =
-      let g = commandItem in
-      found g s k n h _
-      (others g k d (plain-other g k d (seven (λ f. g (fixed f) ≡ refused 6) refl refl refl refl refl refl refl k))
-      (λ e. login-other g d (λ p q r t. refl)) (λ e. request-other g d (λ p q. refl))
-      (λ e. zones-other g d (λ x. refl)) (λ e. events-other g d (λ x. refl)) (λ e. texts-other g d (λ x. refl))
-      (λ e. log-other g d (λ x. refl)) (λ e. absurd (other e)))
+      let P : Message → Type 0 = λ m. commandItem m ≡ refused 6 in
+      found (commandItem) s k n h _
+      (every-type P k d (λ _. every-plain P k d (λ _. seven (λ f. P (fixed f)) refl refl refl refl refl refl refl k)) (λ e. every-login P d (λ _. refl)) (λ e. every-request P d (λ _. refl))
+      (λ e. every-zones P d (λ _ _. refl)) (λ e. every-events P d (λ _. refl)) (λ e. every-texts P d (λ _ _. refl))
+      (λ e. every-log P d (λ x _. refl)) (λ e. absurd (other e)))

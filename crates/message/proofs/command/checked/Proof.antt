@@ -1,32 +1,24 @@
+use borrow.Author.Needs.{needs}
 use mathlib.Core.Path.{ap, _∙_}
 use Rattle.answer.specs.Answer.{accepted}
-use Rattle.message.specs.Command.{commandOf, checkedCommand}
 use Rattle.message.proofs.Laws.Checked.{refuses, passes}
 use Rattle.message.proofs.Laws.Decided.{decided}
-use borrow.Author.Needs.{needs}
 use Rattle.message.proofs.command.checked.Statement.{statement}
 use Rattle.message.proofs.command.checked.Tie as tie
-use Rattle.message.proofs.command.checked.Reads as reads
-use Rattle.message.proofs.command.checked.Lts as lts
-use Rattle.message.proofs.command.command_listed.Reads as command-listed-reads
-use Rattle.message.proofs.command.command_of.Reads as command-of-reads
+use Rattle.message.specs.Command.{commandOf, checkedCommand}
 
--- src/command.rt:140:8
 command-listed-requires : tie.Need-command-listed-requires
 command-listed-requires c κs = search needs
 
--- src/command.rt:141:38
 command-of-requires : tie.Need-command-of-requires
 command-of-requires c κs = search needs
 
--- src/command.rt:141:9
 returns : tie.Need-returns
 unfolding checkedCommand
 returns c =
     ap accepted (c .command-of .ensures)
     ∙ passes 8 (accepted (commandOf _ _ _)) (c .before .before .command-listed .ensures) (c .before .if1 .taken)
 
--- src/command.rt:137:1
 returns-2 : tie.Need-returns-2
 unfolding checkedCommand
 returns-2 c = refuses 8 (accepted (commandOf _ _ _)) (c .before .command-listed .ensures) (c .if1 .left)

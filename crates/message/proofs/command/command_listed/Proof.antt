@@ -1,52 +1,40 @@
-use Rattle.message.specs.Command.{commandListed}
-use Rattle.message.proofs.Laws.Decided.{decided}
 use borrow.Author.Needs.{needs}
+use Rattle.message.proofs.Laws.Decided.{decided}
 use Rattle.message.proofs.command.command_listed.Statement.{statement}
 use Rattle.message.proofs.command.command_listed.Tie as tie
-use Rattle.message.proofs.command.command_listed.Reads as reads
-use Rattle.message.proofs.command.command_listed.Lts as lts
-use Rattle.message.proofs.command.duration_listed.Reads as duration-listed-reads
+use Rattle.message.specs.Command.{commandListed}
 
--- src/command.rt:66:9
 returns : tie.Need-returns
 unfolding commandListed
 returns c = search decided
 
--- src/command.rt:69:9
 returns-2 : tie.Need-returns-2
 unfolding commandListed
 returns-2 c = search decided
 
--- src/command.rt:72:9
 returns-3 : tie.Need-returns-3
 unfolding commandListed
 returns-3 c = search decided
 
--- src/command.rt:75:9
 duration-listed-requires : tie.Need-duration-listed-requires
 duration-listed-requires c κs = search needs
 
--- src/command.rt:75:9
 returns-4 : tie.Need-returns-4
 unfolding commandListed
 returns-4 c = search decided
 
--- src/command.rt:78:9
 returns-5 : tie.Need-returns-5
 unfolding commandListed
 returns-5 c = search decided
 
--- src/command.rt:81:9
 returns-6 : tie.Need-returns-6
 unfolding commandListed
 returns-6 c = search decided
 
--- src/command.rt:84:9
 returns-7 : tie.Need-returns-7
 unfolding commandListed
 returns-7 c = search decided
 
--- src/command.rt:62:1
 returns-8 : tie.Need-returns-8
 unfolding commandListed
 returns-8 c = search decided

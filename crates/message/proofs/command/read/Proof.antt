@@ -1,50 +1,38 @@
-use mathlib.Core.Path.{refl}
 use Prim.Native.Nat.{_+_, _*_}
-use native.Mathlib.Omega.{arith}
-use borrow.Author.Tests.{eq-eqb}
-use Rattle.message.proofs.Laws.Checked.{passes}
-use mathlib.Core.Path.{sym, ap, _∙_}
-use lib.ListN.{getD, length}
-use Rattle.message.specs.Command.{checkedCommand, readCommand}
-use Rattle.message.proofs.Laws.Decided.{decided}
 use borrow.Author.Needs.{needs}
+use borrow.Author.Tests.{eq-eqb}
+use lib.ListN.{getD, length}
+use mathlib.Core.Path.{refl}
+use mathlib.Core.Path.{sym, ap, _∙_}
+use native.Mathlib.Omega.{arith}
+use Rattle.message.proofs.Laws.Checked.{passes}
+use Rattle.message.proofs.Laws.Decided.{decided}
 use Rattle.message.proofs.command.read.Statement.{statement}
 use Rattle.message.proofs.command.read.Tie as tie
-use Rattle.message.proofs.command.read.Reads as reads
-use Rattle.message.proofs.command.read.Lts as lts
-use Rattle.message.proofs.command.checked.Reads as checked-reads
-use Rattle.message.proofs.command.word.Reads as word-reads
+use Rattle.message.specs.Command.{checkedCommand, readCommand}
 
--- src/command.rt:151:9
 returns : tie.Need-returns
 unfolding readCommand
 returns c = search decided
 
--- src/command.rt:153:13
 shared-slice-read-checked : tie.Need-shared-slice-read-checked
 shared-slice-read-checked c = search needs
 
--- src/command.rt:153:22
 shared-slice-read-checked-2 : tie.Need-shared-slice-read-checked-2
 shared-slice-read-checked-2 c = search needs
 
--- src/command.rt:153:36
 shared-slice-read-word : tie.Need-shared-slice-read-word
 shared-slice-read-word c = search needs
 
--- src/command.rt:153:45
 shared-slice-read-word-2 : tie.Need-shared-slice-read-word-2
 shared-slice-read-word-2 c = search needs
 
--- src/command.rt:153:31
 word-requires : tie.Need-word-requires
 word-requires c κs = search needs
 
--- src/command.rt:153:5
 checked-requires : tie.Need-checked-requires
 checked-requires c κs = search needs
 
--- src/command.rt:147:1
 returns-2 : tie.Need-returns-2
 unfolding readCommand
 returns-2 c =

@@ -1,37 +1,27 @@
-use mathlib.Core.Path.{sym, ap, _∙_}
-use mathlib.Core.List.{List}
 use Prim.Native.Nat.{ℕ}
-use Rattle.link.specs.Frame.{outcomeOf}
-use Rattle.message.specs.Command.{readCommand}
-use Rattle.message.specs.Item.{commandItem}
-use Rattle.message.proofs.Laws.Item.{command-found, not-command, item-refused}
-use Rattle.message.proofs.Laws.Decided.{decided}
 use borrow.Author.Needs.{needs}
+use mathlib.Core.List.{List}
+use mathlib.Core.Path.{sym, ap, _∙_}
+use Rattle.link.specs.Frame.{outcomeOf}
+use Rattle.message.proofs.Laws.Decided.{decided}
+use Rattle.message.proofs.Laws.Item.{command-found, not-command, item-refused}
 use Rattle.message.proofs.item.command.Statement.{statement}
 use Rattle.message.proofs.item.command.Tie as tie
-use Rattle.message.proofs.item.command.Reads as reads
-use Rattle.message.proofs.item.command.Lts as lts
-use Rattle.link.proofs.frame.data.Reads as data-reads
-use Rattle.message.proofs.command.read.Reads as read-reads
-use Rattle.message.proofs.message.kind_and_count.Reads as kind-and-count-reads
+use Rattle.message.specs.Command.{readCommand}
+use Rattle.message.specs.Item.{commandItem}
 
--- src/item.rt:201:11
 kind-and-count-requires : tie.Need-kind-and-count-requires
 kind-and-count-requires c κs = search needs
 
--- src/item.rt:202:31
 enum-known-kind : tie.Need-enum-known-kind
 enum-known-kind c = search needs
 
--- src/item.rt:204:45
 data-requires : tie.Need-data-requires
 data-requires c κs = search needs
 
--- src/item.rt:204:17
 read-requires : tie.Need-read-requires
 read-requires c κs = search needs
 
--- src/item.rt:204:17
 returns : tie.Need-returns
 returns c =
     let at = c .before .before .before .before in
@@ -43,7 +33,6 @@ returns c =
     ∙ ap (λ (x : List ℕ). readCommand x) (c .before .«data» .ensures)
     ∙ sym (command-found s k n (sym (at .before .before .kind-and-count .ensures) ∙ ap outcomeOf (at .kind .given .1)) (c .before .before .if1 .taken))
 
--- src/item.rt:206:13
 returns-2 : tie.Need-returns-2
 returns-2 c =
     let at = c .before .before in
@@ -53,11 +42,9 @@ returns-2 c =
     let n = at .kind .given .0 .1 .0 in
     sym (not-command s k n (sym (at .before .before .kind-and-count .ensures) ∙ ap outcomeOf (at .kind .given .1)) (c .if1 .left))
 
--- src/item.rt:208:28
 enum-known-r : tie.Need-enum-known-r
 enum-known-r c = search needs
 
--- src/item.rt:209:13
 returns-3 : tie.Need-returns-3
 returns-3 c =
     let at = c .before in

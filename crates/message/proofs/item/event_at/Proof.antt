@@ -1,47 +1,36 @@
+use borrow.Author.Needs.{needs}
 use mathlib.Core.Path.{sym, ap, _∙_}
 use native.Mathlib.Omega.{arith}
 use Rattle.answer.specs.Answer.{accepted}
-use Rattle.message.specs.Items.{wordOf}
-use Rattle.message.proofs.Laws.Lists.{past-pairs, pair-item}
 use Rattle.message.proofs.Laws.Decided.{decided}
-use borrow.Author.Needs.{needs}
+use Rattle.message.proofs.Laws.Lists.{past-pairs, pair-item}
 use Rattle.message.proofs.item.event_at.Statement.{statement}
 use Rattle.message.proofs.item.event_at.Tie as tie
-use Rattle.message.proofs.item.event_at.Reads as reads
-use Rattle.message.proofs.item.event_at.Lts as lts
-use Rattle.message.proofs.command.word.Reads as word-reads
+use Rattle.message.specs.Items.{wordOf}
 
--- src/item.rt:51:9
 returns : tie.Need-returns
 returns c =
     let a = c .before .before .args in
     sym (past-pairs wordOf (a .«data» .now) (a .i) (omega arith))
 
--- src/item.rt:53:51
 mul-word : tie.Need-mul-word
 mul-word c = search needs
 
--- src/item.rt:53:46
 shared-slice-read-word : tie.Need-shared-slice-read-word
 shared-slice-read-word c = search needs
 
--- src/item.rt:53:64
 mul-word-2 : tie.Need-mul-word-2
 mul-word-2 c = search needs
 
--- src/item.rt:53:64
 add-word : tie.Need-add-word
 add-word c = search needs
 
--- src/item.rt:53:59
 shared-slice-read-word-2 : tie.Need-shared-slice-read-word-2
 shared-slice-read-word-2 c = search needs
 
--- src/item.rt:53:25
 word-requires : tie.Need-word-requires
 word-requires c κs = search needs
 
--- src/item.rt:47:1
 returns-2 : tie.Need-returns-2
 returns-2 c =
     let a = c .before .before .before .before .before .args in

@@ -1,38 +1,28 @@
-use mathlib.Core.Path.{sym, ap, _∙_}
-use mathlib.Core.List.{List}
 use Prim.Native.Nat.{ℕ}
-use Rattle.link.specs.Frame.{outcomeOf}
-use Rattle.message.specs.Log.{readLog}
-use Rattle.message.specs.Item.{logField, logItem}
-use Rattle.message.proofs.Laws.Item.{log-found, not-log, item-refused}
-use Rattle.answer.specs.Answer.{andThen}
-use Rattle.message.proofs.Laws.Decided.{decided}
 use borrow.Author.Needs.{needs}
+use mathlib.Core.List.{List}
+use mathlib.Core.Path.{sym, ap, _∙_}
+use Rattle.answer.specs.Answer.{andThen}
+use Rattle.link.specs.Frame.{outcomeOf}
+use Rattle.message.proofs.Laws.Decided.{decided}
+use Rattle.message.proofs.Laws.Item.{log-found, not-log, item-refused}
 use Rattle.message.proofs.item.log_entry.Statement.{statement}
 use Rattle.message.proofs.item.log_entry.Tie as tie
-use Rattle.message.proofs.item.log_entry.Reads as reads
-use Rattle.message.proofs.item.log_entry.Lts as lts
-use Rattle.link.proofs.frame.data.Reads as data-reads
-use Rattle.message.proofs.item.log_field_at.Reads as log-field-at-reads
-use Rattle.message.proofs.message.kind_and_count.Reads as kind-and-count-reads
+use Rattle.message.specs.Item.{logField, logItem}
+use Rattle.message.specs.Log.{readLog}
 
--- src/item.rt:184:11
 kind-and-count-requires : tie.Need-kind-and-count-requires
 kind-and-count-requires c κs = search needs
 
--- src/item.rt:185:31
 enum-known-kind : tie.Need-enum-known-kind
 enum-known-kind c = search needs
 
--- src/item.rt:187:37
 data-requires : tie.Need-data-requires
 data-requires c κs = search needs
 
--- src/item.rt:187:17
 log-field-at-requires : tie.Need-log-field-at-requires
 log-field-at-requires c κs = search needs
 
--- src/item.rt:187:17
 returns : tie.Need-returns
 returns c =
     let at = c .before .before .before .before in
@@ -44,7 +34,6 @@ returns c =
     ∙ ap (λ (x : List ℕ). andThen (readLog x) (λ e. logField e (a .i))) (c .before .«data» .ensures)
     ∙ sym (log-found s k n (sym (at .before .before .kind-and-count .ensures) ∙ ap outcomeOf (at .kind .given .1)) (a .i) (c .before .before .if1 .taken))
 
--- src/item.rt:189:13
 returns-2 : tie.Need-returns-2
 returns-2 c =
     let at = c .before .before in
@@ -54,11 +43,9 @@ returns-2 c =
     let n = at .kind .given .0 .1 .0 in
     sym (not-log s k n (sym (at .before .before .kind-and-count .ensures) ∙ ap outcomeOf (at .kind .given .1)) (a .i) (c .if1 .left))
 
--- src/item.rt:191:28
 enum-known-r : tie.Need-enum-known-r
 enum-known-r c = search needs
 
--- src/item.rt:192:13
 returns-3 : tie.Need-returns-3
 returns-3 c =
     let at = c .before in

@@ -1,89 +1,69 @@
-use Rattle.message.specs.Item.{logField}
-use Rattle.message.proofs.Laws.Decided.{decided}
 use borrow.Author.Needs.{needs}
+use Rattle.message.proofs.Laws.Decided.{decided}
 use Rattle.message.proofs.item.log_field.Statement.{statement}
 use Rattle.message.proofs.item.log_field.Tie as tie
-use Rattle.message.proofs.item.log_field.Reads as reads
-use Rattle.message.proofs.item.log_field.Lts as lts
+use Rattle.message.specs.Item.{logField}
 
--- src/item.rt:90:35
 cast-t4 : tie.Need-cast-t4
 cast-t4 c = search needs
 
--- src/item.rt:90:9
 returns : tie.Need-returns
 unfolding logField
 returns c = search decided
 
--- src/item.rt:93:35
 cast-t5 : tie.Need-cast-t5
 cast-t5 c = search needs
 
--- src/item.rt:93:9
 returns-2 : tie.Need-returns-2
 unfolding logField
 returns-2 c = search decided
 
--- src/item.rt:96:35
 cast-t6 : tie.Need-cast-t6
 cast-t6 c = search needs
 
--- src/item.rt:96:9
 returns-3 : tie.Need-returns-3
 unfolding logField
 returns-3 c = search decided
 
--- src/item.rt:99:35
 cast-t7 : tie.Need-cast-t7
 cast-t7 c = search needs
 
--- src/item.rt:99:9
 returns-4 : tie.Need-returns-4
 unfolding logField
 returns-4 c = search decided
 
--- src/item.rt:102:35
 cast-t8 : tie.Need-cast-t8
 cast-t8 c = search needs
 
--- src/item.rt:102:9
 returns-5 : tie.Need-returns-5
 unfolding logField
 returns-5 c = search decided
 
--- src/item.rt:105:35
 cast-t9 : tie.Need-cast-t9
 cast-t9 c = search needs
 
--- src/item.rt:105:9
 returns-6 : tie.Need-returns-6
 unfolding logField
 returns-6 c = search decided
 
--- src/item.rt:108:35
 cast-t10 : tie.Need-cast-t10
 cast-t10 c = search needs
 
--- src/item.rt:108:9
 returns-7 : tie.Need-returns-7
 unfolding logField
 returns-7 c = search decided
 
--- src/item.rt:111:35
 cast-t11 : tie.Need-cast-t11
 cast-t11 c = search needs
 
--- src/item.rt:111:9
 returns-8 : tie.Need-returns-8
 unfolding logField
 returns-8 c = search decided
 
--- src/item.rt:114:9
 returns-9 : tie.Need-returns-9
 unfolding logField
 returns-9 c = search decided
 
--- src/item.rt:86:1
 returns-10 : tie.Need-returns-10
 unfolding logField
 returns-10 c = search decided

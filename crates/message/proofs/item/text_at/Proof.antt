@@ -1,57 +1,44 @@
-use mathlib.Core.Path.{sym, ap, _∙_}
 use Prim.Native.Nat.{ℕ, _/_, _%_}
-use native.Mathlib.Omega.{arith}
+use borrow.Author.Needs.{needs}
 use lib.ListN.{drop, length-drop}
 use lib.Seq.{getD-drop}
+use mathlib.Core.Path.{sym, ap, _∙_}
+use native.Mathlib.Omega.{arith}
 use Rattle.answer.specs.Answer.{accepted}
-use Rattle.message.specs.Items.{textOf, twoBits}
-use Rattle.message.proofs.Laws.Lists.{past-texts, text-item}
 use Rattle.message.proofs.Laws.Decided.{decided}
-use borrow.Author.Needs.{needs}
+use Rattle.message.proofs.Laws.Lists.{past-texts, text-item}
 use Rattle.message.proofs.item.text_at.Statement.{statement}
 use Rattle.message.proofs.item.text_at.Tie as tie
-use Rattle.message.proofs.item.text_at.Reads as reads
-use Rattle.message.proofs.item.text_at.Lts as lts
-use Rattle.message.proofs.item.two_bits.Reads as two-bits-reads
-use Rattle.message.proofs.items.text_of.Reads as text-of-reads
+use Rattle.message.specs.Items.{textOf, twoBits}
 
--- src/item.rt:77:9
 returns : tie.Need-returns
 returns c =
     let a = c .before .before .args in
     sym (past-texts (drop 1 (a .«data» .now)) (a .i) (simp length-drop (omega arith)))
 
--- src/item.rt:79:8
 sub-if2 : tie.Need-sub-if2
 sub-if2 c = search needs
 
--- src/item.rt:80:9
 returns-2 : tie.Need-returns-2
 returns-2 c =
     let a = c .before .before .before .args in
     sym (past-texts (drop 1 (a .«data» .now)) (a .i) (simp length-drop (omega arith)))
 
--- src/item.rt:82:30
 add-two-bits : tie.Need-add-two-bits
 add-two-bits c = search needs
 
--- src/item.rt:82:25
 shared-slice-read-two-bits : tie.Need-shared-slice-read-two-bits
 shared-slice-read-two-bits c = search needs
 
--- src/item.rt:82:42
 cast-two-bits : tie.Need-cast-two-bits
 cast-two-bits c = search needs
 
--- src/item.rt:82:9
 two-bits-requires : tie.Need-two-bits-requires
 two-bits-requires c κs = search needs
 
--- src/item.rt:83:24
 text-of-requires : tie.Need-text-of-requires
 text-of-requires c κs = search needs
 
--- src/item.rt:73:1
 returns-3 : tie.Need-returns-3
 returns-3 c =
     let a = c .before .before .before .before .before .before .args in

@@ -1,37 +1,27 @@
-use mathlib.Core.Path.{sym, ap, _∙_}
-use mathlib.Core.List.{List}
 use Prim.Native.Nat.{ℕ}
-use Rattle.link.specs.Frame.{outcomeOf}
-use Rattle.message.specs.Items.{zones}
-use Rattle.message.specs.Item.{itemAt, zoneItem}
-use Rattle.message.proofs.Laws.Item.{zone-found, not-zone, item-refused}
-use Rattle.message.proofs.Laws.Decided.{decided}
 use borrow.Author.Needs.{needs}
+use mathlib.Core.List.{List}
+use mathlib.Core.Path.{sym, ap, _∙_}
+use Rattle.link.specs.Frame.{outcomeOf}
+use Rattle.message.proofs.Laws.Decided.{decided}
+use Rattle.message.proofs.Laws.Item.{zone-found, not-zone, item-refused}
 use Rattle.message.proofs.item.zone.Statement.{statement}
 use Rattle.message.proofs.item.zone.Tie as tie
-use Rattle.message.proofs.item.zone.Reads as reads
-use Rattle.message.proofs.item.zone.Lts as lts
-use Rattle.link.proofs.frame.data.Reads as data-reads
-use Rattle.message.proofs.item.zone_at.Reads as zone-at-reads
-use Rattle.message.proofs.message.kind_and_count.Reads as kind-and-count-reads
+use Rattle.message.specs.Item.{itemAt, zoneItem}
+use Rattle.message.specs.Items.{zones}
 
--- src/item.rt:133:11
 kind-and-count-requires : tie.Need-kind-and-count-requires
 kind-and-count-requires c κs = search needs
 
--- src/item.rt:134:31
 enum-known-kind : tie.Need-enum-known-kind
 enum-known-kind c = search needs
 
--- src/item.rt:136:32
 data-requires : tie.Need-data-requires
 data-requires c κs = search needs
 
--- src/item.rt:136:17
 zone-at-requires : tie.Need-zone-at-requires
 zone-at-requires c κs = search needs
 
--- src/item.rt:136:17
 returns : tie.Need-returns
 returns c =
     let at = c .before .before .before .before in
@@ -43,7 +33,6 @@ returns c =
     ∙ ap (λ (x : List ℕ). itemAt (zones x) (a .i)) (c .before .«data» .ensures)
     ∙ sym (zone-found s k n (sym (at .before .before .kind-and-count .ensures) ∙ ap outcomeOf (at .kind .given .1)) (a .i) (c .before .before .if1 .taken))
 
--- src/item.rt:138:13
 returns-2 : tie.Need-returns-2
 returns-2 c =
     let at = c .before .before in
@@ -53,11 +42,9 @@ returns-2 c =
     let n = at .kind .given .0 .1 .0 in
     sym (not-zone s k n (sym (at .before .before .kind-and-count .ensures) ∙ ap outcomeOf (at .kind .given .1)) (a .i) (c .if1 .left))
 
--- src/item.rt:140:28
 enum-known-r : tie.Need-enum-known-r
 enum-known-r c = search needs
 
--- src/item.rt:141:13
 returns-3 : tie.Need-returns-3
 returns-3 c =
     let at = c .before in

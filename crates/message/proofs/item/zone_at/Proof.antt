@@ -1,47 +1,36 @@
+use borrow.Author.Needs.{needs}
 use mathlib.Core.Path.{sym, ap, _∙_}
 use native.Mathlib.Omega.{arith}
 use Rattle.answer.specs.Answer.{accepted}
-use Rattle.message.specs.Items.{zoneOf}
-use Rattle.message.proofs.Laws.Lists.{past-pairs, pair-item}
 use Rattle.message.proofs.Laws.Decided.{decided}
-use borrow.Author.Needs.{needs}
+use Rattle.message.proofs.Laws.Lists.{past-pairs, pair-item}
 use Rattle.message.proofs.item.zone_at.Statement.{statement}
 use Rattle.message.proofs.item.zone_at.Tie as tie
-use Rattle.message.proofs.item.zone_at.Reads as reads
-use Rattle.message.proofs.item.zone_at.Lts as lts
-use Rattle.message.proofs.items.zone_of.Reads as zone-of-reads
+use Rattle.message.specs.Items.{zoneOf}
 
--- src/item.rt:41:9
 returns : tie.Need-returns
 returns c =
     let a = c .before .before .args in
     sym (past-pairs zoneOf (a .«data» .now) (a .i) (omega arith))
 
--- src/item.rt:43:44
 mul-zone-of : tie.Need-mul-zone-of
 mul-zone-of c = search needs
 
--- src/item.rt:43:39
 shared-slice-read-zone-of : tie.Need-shared-slice-read-zone-of
 shared-slice-read-zone-of c = search needs
 
--- src/item.rt:43:57
 mul-zone-of-2 : tie.Need-mul-zone-of-2
 mul-zone-of-2 c = search needs
 
--- src/item.rt:43:57
 add-zone-of : tie.Need-add-zone-of
 add-zone-of c = search needs
 
--- src/item.rt:43:52
 shared-slice-read-zone-of-2 : tie.Need-shared-slice-read-zone-of-2
 shared-slice-read-zone-of-2 c = search needs
 
--- src/item.rt:43:24
 zone-of-requires : tie.Need-zone-of-requires
 zone-of-requires c κs = search needs
 
--- src/item.rt:37:1
 returns-2 : tie.Need-returns-2
 returns-2 c =
     let a = c .before .before .before .before .before .args in

@@ -1,22 +1,16 @@
 use Rattle.message.proofs.Laws.Decided.{decided}
 use Rattle.message.proofs.items.arming_of.Statement.{statement}
 use Rattle.message.proofs.items.arming_of.Tie as tie
-use Rattle.message.proofs.items.arming_of.Reads as reads
-use Rattle.message.proofs.items.arming_of.Lts as lts
 
--- src/items.rt:74:9
 returns : tie.Need-returns
 returns c = search decided
 
--- src/items.rt:77:9
 returns-2 : tie.Need-returns-2
 returns-2 c = search decided
 
--- src/items.rt:80:9
 returns-3 : tie.Need-returns-3
 returns-3 c = search decided
 
--- src/items.rt:69:1
 returns-4 : tie.Need-returns-4
 returns-4 c = search decided
 

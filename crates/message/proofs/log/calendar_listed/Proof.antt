@@ -1,36 +1,28 @@
-use Rattle.message.specs.Log.{calendarListed}
 use Rattle.message.proofs.Laws.Decided.{decided}
 use Rattle.message.proofs.log.calendar_listed.Statement.{statement}
 use Rattle.message.proofs.log.calendar_listed.Tie as tie
-use Rattle.message.proofs.log.calendar_listed.Reads as reads
-use Rattle.message.proofs.log.calendar_listed.Lts as lts
+use Rattle.message.specs.Log.{calendarListed}
 
--- src/log.rt:31:9
 returns : tie.Need-returns
 unfolding calendarListed
 returns c = search decided
 
--- src/log.rt:34:9
 returns-2 : tie.Need-returns-2
 unfolding calendarListed
 returns-2 c = search decided
 
--- src/log.rt:37:9
 returns-3 : tie.Need-returns-3
 unfolding calendarListed
 returns-3 c = search decided
 
--- src/log.rt:40:9
 returns-4 : tie.Need-returns-4
 unfolding calendarListed
 returns-4 c = search decided
 
--- src/log.rt:43:9
 returns-5 : tie.Need-returns-5
 unfolding calendarListed
 returns-5 c = search decided
 
--- src/log.rt:27:1
 returns-6 : tie.Need-returns-6
 unfolding calendarListed
 returns-6 c = search decided

@@ -1,58 +1,43 @@
-use lib.ListN.{getD}
-use Rattle.message.specs.Log.{logOf}
-use Rattle.message.proofs.Laws.Decided.{decided}
 use borrow.Author.Needs.{needs}
+use lib.ListN.{getD}
+use Rattle.message.proofs.Laws.Decided.{decided}
 use Rattle.message.proofs.log.log_of.Statement.{statement}
 use Rattle.message.proofs.log.log_of.Tie as tie
-use Rattle.message.proofs.log.log_of.Reads as reads
-use Rattle.message.proofs.log.log_of.Lts as lts
-use Rattle.message.proofs.command.word.Reads as word-reads
+use Rattle.message.specs.Log.{logOf}
 
--- src/log.rt:66:17
 shared-slice-read-t3 : tie.Need-shared-slice-read-t3
 shared-slice-read-t3 c = search needs
 
--- src/log.rt:67:21
 shared-slice-read-t5 : tie.Need-shared-slice-read-t5
 shared-slice-read-t5 c = search needs
 
--- src/log.rt:68:16
 shared-slice-read-t7 : tie.Need-shared-slice-read-t7
 shared-slice-read-t7 c = search needs
 
--- src/log.rt:69:14
 shared-slice-read-t9 : tie.Need-shared-slice-read-t9
 shared-slice-read-t9 c = search needs
 
--- src/log.rt:70:15
 shared-slice-read-t11 : tie.Need-shared-slice-read-t11
 shared-slice-read-t11 c = search needs
 
--- src/log.rt:71:17
 shared-slice-read-t13 : tie.Need-shared-slice-read-t13
 shared-slice-read-t13 c = search needs
 
--- src/log.rt:72:21
 shared-slice-read-t15 : tie.Need-shared-slice-read-t15
 shared-slice-read-t15 c = search needs
 
--- src/log.rt:73:22
 shared-slice-read-t17 : tie.Need-shared-slice-read-t17
 shared-slice-read-t17 c = search needs
 
--- src/log.rt:74:43
 shared-slice-read-word : tie.Need-shared-slice-read-word
 shared-slice-read-word c = search needs
 
--- src/log.rt:74:52
 shared-slice-read-word-2 : tie.Need-shared-slice-read-word-2
 shared-slice-read-word-2 c = search needs
 
--- src/log.rt:74:22
 word-requires : tie.Need-word-requires
 word-requires c κs = search needs
 
--- src/log.rt:61:1
 returns : tie.Need-returns
 unfolding logOf
 returns c =

@@ -1,38 +1,30 @@
+use borrow.Author.Needs.{needs}
 use mathlib.Core.Path.{sym, ap, _∙_}
 use Rattle.answer.specs.Answer.{Outcome, onAccepted}
+use Rattle.message.proofs.Laws.Decided.{decided}
+use Rattle.message.proofs.message.command.Statement.{statement}
+use Rattle.message.proofs.message.command.Tie as tie
 use Rattle.message.specs.Command.{commandRead}
+use Rattle.message.specs.Message.{commandMessage}
 use Rattle.message.specs.Message.{fixed, counted}
 use Rattle.message.specs.declared.command.Command.{Command}
 use Rattle.message.specs.declared.message.Fixed.the-variants as F
-use Rattle.message.specs.Message.{commandMessage}
-use Rattle.message.proofs.Laws.Decided.{decided}
-use borrow.Author.Needs.{needs}
-use Rattle.message.proofs.message.command.Statement.{statement}
-use Rattle.message.proofs.message.command.Tie as tie
-use Rattle.message.proofs.message.command.Reads as reads
-use Rattle.message.proofs.message.command.Lts as lts
-use Rattle.message.proofs.command.read.Reads as read-reads
 
--- src/message.rt:268:11
 read-requires : tie.Need-read-requires
 read-requires c κs = search needs
 
--- src/message.rt:269:31
 enum-known-c : tie.Need-enum-known-c
 enum-known-c c = search needs
 
--- src/message.rt:270:30
 enum-known-r : tie.Need-enum-known-r
 enum-known-r c = search needs
 
--- src/message.rt:265:1
 returns : tie.Need-returns
 unfolding commandMessage
 returns c =
     ap (λ (o : Outcome Command). onAccepted counted (onAccepted (λ e. fixed (F.Command e)) o))
     (sym (ap commandRead (c .before .c .given .1)) ∙ c .before .before .before .read .ensures)
 
--- src/message.rt:265:1
 returns-2 : tie.Need-returns-2
 unfolding commandMessage
 returns-2 c =

@@ -1,26 +1,20 @@
-use Rattle.message.specs.Message.{digitsListed}
 use Rattle.message.proofs.Laws.Decided.{decided}
 use Rattle.message.proofs.message.digits_listed.Statement.{statement}
 use Rattle.message.proofs.message.digits_listed.Tie as tie
-use Rattle.message.proofs.message.digits_listed.Reads as reads
-use Rattle.message.proofs.message.digits_listed.Lts as lts
+use Rattle.message.specs.Message.{digitsListed}
 
--- src/message.rt:116:9
 returns : tie.Need-returns
 unfolding digitsListed
 returns c = search decided
 
--- src/message.rt:119:9
 returns-2 : tie.Need-returns-2
 unfolding digitsListed
 returns-2 c = search decided
 
--- src/message.rt:122:9
 returns-3 : tie.Need-returns-3
 unfolding digitsListed
 returns-3 c = search decided
 
--- src/message.rt:112:1
 returns-4 : tie.Need-returns-4
 unfolding digitsListed
 returns-4 c = search decided

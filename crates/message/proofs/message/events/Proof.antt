@@ -1,32 +1,26 @@
-use Rattle.message.specs.Items.{wordOf}
 use Prim.Native.Nat.{_%_}
-use native.Mathlib.Omega.{arith}
+use borrow.Author.Needs.{needs}
 use borrow.Author.Tests.{eq-eqb, le-ltb}
 use lib.ListN.{length}
-use Rattle.message.specs.Message.{readEvents}
-use Rattle.message.proofs.Laws.Lists.{pairs-length}
+use native.Mathlib.Omega.{arith}
 use Rattle.message.proofs.Laws.Decided.{decided}
-use borrow.Author.Needs.{needs}
+use Rattle.message.proofs.Laws.Lists.{pairs-length}
 use Rattle.message.proofs.message.events.Statement.{statement}
 use Rattle.message.proofs.message.events.Tie as tie
-use Rattle.message.proofs.message.events.Reads as reads
-use Rattle.message.proofs.message.events.Lts as lts
+use Rattle.message.specs.Items.{wordOf}
+use Rattle.message.specs.Message.{readEvents}
 
--- src/message.rt:214:9
 returns : tie.Need-returns
 unfolding readEvents
 returns c = search decided
 
--- src/message.rt:217:9
 returns-2 : tie.Need-returns-2
 unfolding readEvents
 returns-2 c = search decided
 
--- src/message.rt:220:16
 cast-t7 : tie.Need-cast-t7
 cast-t7 c = search needs
 
--- src/message.rt:209:1
 returns-3 : tie.Need-returns-3
 unfolding readEvents
 returns-3 c =

@@ -1,50 +1,37 @@
-use mathlib.Core.Path.{sym, ap, _∙_}
-use mathlib.Core.List.{List}
 use Prim.Native.Nat.{ℕ}
+use borrow.Author.Needs.{needs}
+use mathlib.Core.List.{List}
+use mathlib.Core.Path.{sym, ap, _∙_}
 use Rattle.answer.specs.Answer.{onAccepted}
 use Rattle.link.specs.Frame.{outcomeOf}
-use Rattle.message.specs.Item.{messageHeader}
-use Rattle.message.specs.Message.{messageOf, messageRead, counted}
-use Rattle.message.proofs.Laws.Item.{header-read, header-refused, frame-refused}
 use Rattle.message.proofs.Laws.Decided.{decided}
-use borrow.Author.Needs.{needs}
+use Rattle.message.proofs.Laws.Item.{header-read, header-refused, frame-refused}
 use Rattle.message.proofs.message.kind_and_count.Statement.{statement}
 use Rattle.message.proofs.message.kind_and_count.Tie as tie
-use Rattle.message.proofs.message.kind_and_count.Reads as reads
-use Rattle.message.proofs.message.kind_and_count.Lts as lts
-use Rattle.link.proofs.frame.data.Reads as data-reads
-use Rattle.link.proofs.frame.read.Reads as read-reads
-use Rattle.message.proofs.message.of_data.Reads as of-data-reads
+use Rattle.message.specs.Item.{messageHeader}
+use Rattle.message.specs.Message.{messageOf, messageRead, counted}
 
--- src/message.rt:327:11
 read-requires : tie.Need-read-requires
 read-requires c κs = search needs
 
--- src/message.rt:328:31
 enum-known-kind : tie.Need-enum-known-kind
 enum-known-kind c = search needs
 
--- src/message.rt:330:13
 data-requires : tie.Need-data-requires
 data-requires c κs = search needs
 
--- src/message.rt:328:54
 of-data-requires : tie.Need-of-data-requires
 of-data-requires c κs = search needs
 
--- src/message.rt:332:41
 enum-told : tie.Need-enum-told
 enum-told c = search needs
 
--- src/message.rt:333:34
 enum-known-r : tie.Need-enum-known-r
 enum-known-r c = search needs
 
--- src/message.rt:335:28
 enum-known-r-2 : tie.Need-enum-known-r-2
 enum-known-r-2 c = search needs
 
--- src/message.rt:324:1
 returns : tie.Need-returns
 returns c =
     let at = c .before .before .before .before .before in
@@ -55,7 +42,6 @@ returns c =
     (sym (ap messageRead (c .enum-told .given .1)) ∙ c .before .before .of-data .ensures
     ∙ ap (λ (x : List ℕ). onAccepted counted (messageOf k x)) (c .before .before .before .«data» .ensures)))
 
--- src/message.rt:324:1
 returns-2 : tie.Need-returns-2
 returns-2 c =
     let at = c .before .before .before .before .before .before in
@@ -66,7 +52,6 @@ returns-2 c =
     (sym (ap messageRead (c .before .r .given .1)) ∙ c .before .before .before .of-data .ensures
     ∙ ap (λ (x : List ℕ). onAccepted counted (messageOf k x)) (c .before .before .before .before .«data» .ensures)))
 
--- src/message.rt:324:1
 returns-3 : tie.Need-returns-3
 unfolding messageHeader
 returns-3 c =

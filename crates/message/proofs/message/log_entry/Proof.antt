@@ -1,38 +1,30 @@
+use borrow.Author.Needs.{needs}
 use mathlib.Core.Path.{sym, ap, _∙_}
 use Rattle.answer.specs.Answer.{Outcome, onAccepted}
-use Rattle.message.specs.Log.{logRead}
-use Rattle.message.specs.Message.{fixed, counted}
-use Rattle.message.specs.declared.log.LogEntry.{LogEntry}
-use Rattle.message.specs.declared.message.Fixed.the-variants as F
-use Rattle.message.specs.Message.{logMessage}
 use Rattle.message.proofs.Laws.Decided.{decided}
-use borrow.Author.Needs.{needs}
 use Rattle.message.proofs.message.log_entry.Statement.{statement}
 use Rattle.message.proofs.message.log_entry.Tie as tie
-use Rattle.message.proofs.message.log_entry.Reads as reads
-use Rattle.message.proofs.message.log_entry.Lts as lts
-use Rattle.message.proofs.log.read.Reads as read-reads
+use Rattle.message.specs.Log.{logRead}
+use Rattle.message.specs.Message.{fixed, counted}
+use Rattle.message.specs.Message.{logMessage}
+use Rattle.message.specs.declared.log.LogEntry.{LogEntry}
+use Rattle.message.specs.declared.message.Fixed.the-variants as F
 
--- src/message.rt:259:11
 read-requires : tie.Need-read-requires
 read-requires c κs = search needs
 
--- src/message.rt:260:27
 enum-known-entry : tie.Need-enum-known-entry
 enum-known-entry c = search needs
 
--- src/message.rt:261:26
 enum-known-r : tie.Need-enum-known-r
 enum-known-r c = search needs
 
--- src/message.rt:256:1
 returns : tie.Need-returns
 unfolding logMessage
 returns c =
     ap (λ (o : Outcome LogEntry). onAccepted counted (onAccepted (λ e. fixed (F.LogEntry e)) o))
     (sym (ap logRead (c .before .entry .given .1)) ∙ c .before .before .before .read .ensures)
 
--- src/message.rt:256:1
 returns-2 : tie.Need-returns-2
 unfolding logMessage
 returns-2 c =

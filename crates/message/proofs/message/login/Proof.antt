@@ -1,46 +1,36 @@
-use mathlib.Core.Path.{refl, sym, ap, _∙_}
-use mathlib.Core.Bool.{not}
-use native.Mathlib.Omega.{arith}
+use borrow.Author.Needs.{needs}
 use borrow.Author.Tests.{eq-eqb}
 use lib.ListN.{length, getD}
+use mathlib.Core.Bool.{not}
+use mathlib.Core.Path.{refl, sym, ap, _∙_}
+use native.Mathlib.Omega.{arith}
 use Rattle.answer.specs.Answer.{accepted, refuseIf, onAccepted}
 use Rattle.message.proofs.Laws.Checked.{refuses, passes}
-use Rattle.message.specs.declared.message.Fixed.the-variants as F
-use Rattle.message.specs.Message.{fixed, digitsListed, readLogin, counted}
 use Rattle.message.proofs.Laws.Decided.{decided}
-use borrow.Author.Needs.{needs}
 use Rattle.message.proofs.message.login.Statement.{statement}
 use Rattle.message.proofs.message.login.Tie as tie
-use Rattle.message.proofs.message.login.Reads as reads
-use Rattle.message.proofs.message.login.Lts as lts
-use Rattle.message.proofs.message.digits_listed.Reads as digits-listed-reads
+use Rattle.message.specs.Message.{fixed, digitsListed, readLogin, counted}
+use Rattle.message.specs.declared.message.Fixed.the-variants as F
 
--- src/message.rt:131:9
 returns : tie.Need-returns
 unfolding readLogin
 returns c = search decided
 
--- src/message.rt:133:17
 shared-slice-read-first : tie.Need-shared-slice-read-first
 shared-slice-read-first c = search needs
 
--- src/message.rt:134:18
 shared-slice-read-second : tie.Need-shared-slice-read-second
 shared-slice-read-second c = search needs
 
--- src/message.rt:135:17
 shared-slice-read-third : tie.Need-shared-slice-read-third
 shared-slice-read-third c = search needs
 
--- src/message.rt:136:18
 shared-slice-read-fourth : tie.Need-shared-slice-read-fourth
 shared-slice-read-fourth c = search needs
 
--- src/message.rt:137:8
 digits-listed-requires : tie.Need-digits-listed-requires
 digits-listed-requires c κs = search needs
 
--- src/message.rt:138:9
 returns-2 : tie.Need-returns-2
 unfolding readLogin
 returns-2 c =
@@ -51,7 +41,6 @@ returns-2 c =
     (passes 8 read (c .before .digits-listed .ensures) (c .if2 .taken)
     ∙ passes 7 (refuseIf (not digits) 8 read) refl (eq-eqb (length d) 4 (omega arith)))
 
--- src/message.rt:127:1
 returns-3 : tie.Need-returns-3
 unfolding readLogin
 returns-3 c =

@@ -1,49 +1,39 @@
+use borrow.Author.Needs.{needs}
 use mathlib.Core.Path.{refl, _∙_}
 use native.Mathlib.Omega.{arith}
-use Rattle.message.proofs.Laws.Kinds.{status-read}
-use Rattle.message.specs.Message.{readMessageStatus, statusLength}
 use Rattle.message.proofs.Laws.Decided.{decided}
-use borrow.Author.Needs.{needs}
+use Rattle.message.proofs.Laws.Kinds.{status-read}
 use Rattle.message.proofs.message.message_status.Statement.{statement}
 use Rattle.message.proofs.message.message_status.Tie as tie
-use Rattle.message.proofs.message.message_status.Reads as reads
-use Rattle.message.proofs.message.message_status.Lts as lts
-use Rattle.message.proofs.message.status_of.Reads as status-of-reads
+use Rattle.message.specs.Message.{readMessageStatus, statusLength}
 
--- src/message.rt:241:9
 status-of-requires : tie.Need-status-of-requires
 status-of-requires c κs = search needs
 
--- src/message.rt:241:9
 returns : tie.Need-returns
 unfolding statusLength
 returns c =
     c .status-of .ensures
     ∙ status-read (c .before .before .before .args .«data» .now) 5 16 (omega arith) refl refl
 
--- src/message.rt:244:9
 status-of-requires-2 : tie.Need-status-of-requires-2
 status-of-requires-2 c κs = search needs
 
--- src/message.rt:244:9
 returns-2 : tie.Need-returns-2
 unfolding statusLength
 returns-2 c =
     c .status-of2 .ensures
     ∙ status-read (c .before .before .before .before .args .«data» .now) 17 64 (omega arith) refl refl
 
--- src/message.rt:247:9
 status-of-requires-3 : tie.Need-status-of-requires-3
 status-of-requires-3 c κs = search needs
 
--- src/message.rt:247:9
 returns-3 : tie.Need-returns-3
 unfolding statusLength
 returns-3 c =
     c .status-of3 .ensures
     ∙ status-read (c .before .before .before .before .before .args .«data» .now) 33 128 (omega arith) refl refl
 
--- src/message.rt:237:1
 returns-4 : tie.Need-returns-4
 unfolding readMessageStatus statusLength
 returns-4 c = search decided

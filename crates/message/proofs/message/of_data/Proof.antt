@@ -1,118 +1,89 @@
-use mathlib.Core.Path.{sym, ap, _∙_}
 use Prim.Native.Nat.{ℕ}
+use borrow.Author.Needs.{needs}
+use mathlib.Core.Path.{sym, ap, _∙_}
 use native.Mathlib.Omega.{arith}
 use Rattle.answer.specs.Answer.{onAccepted}
-use Rattle.message.specs.Message.{messageOf, plainListed, counted}
-use Rattle.message.proofs.Laws.Kinds.{is-plain, unknown}
 use Rattle.message.proofs.Laws.Decided.{decided}
-use borrow.Author.Needs.{needs}
+use Rattle.message.proofs.Laws.Kinds.{is-plain, unknown}
 use Rattle.message.proofs.message.of_data.Statement.{statement}
 use Rattle.message.proofs.message.of_data.Tie as tie
-use Rattle.message.proofs.message.of_data.Reads as reads
-use Rattle.message.proofs.message.of_data.Lts as lts
-use Rattle.message.proofs.message.command.Reads as command-reads
-use Rattle.message.proofs.message.events.Reads as events-reads
-use Rattle.message.proofs.message.log_entry.Reads as log-entry-reads
-use Rattle.message.proofs.message.login.Reads as login-reads
-use Rattle.message.proofs.message.message_status.Reads as message-status-reads
-use Rattle.message.proofs.message.plain.Reads as plain-reads
-use Rattle.message.proofs.message.plain_listed.Reads as plain-listed-reads
-use Rattle.message.proofs.message.zone_request.Reads as zone-request-reads
-use Rattle.message.proofs.message.zone_status.Reads as zone-status-reads
+use Rattle.message.specs.Message.{messageOf, plainListed, counted}
 
--- src/message.rt:274:8
 plain-listed-requires : tie.Need-plain-listed-requires
 plain-listed-requires c κs = search needs
 
--- src/message.rt:275:9
 plain-requires : tie.Need-plain-requires
 plain-requires c κs = search needs
 
--- src/message.rt:275:9
 returns : tie.Need-returns
 returns c =
     let a = c .before .before .before .before .args in
     c .plain .ensures
     ∙ sym (ap (onAccepted counted) (is-plain (a .kind) (a .«data» .now) (sym (c .before .before .plain-listed .ensures) ∙ c .before .if1 .taken)))
 
--- src/message.rt:278:9
 login-requires : tie.Need-login-requires
 login-requires c κs = search needs
 
--- src/message.rt:278:9
 returns-2 : tie.Need-returns-2
 unfolding messageOf plainListed
 returns-2 c =
     let d = c .before .before .before .before .before .args .«data» .now in
     c .login .ensures ∙ sym (ap (λ (k : ℕ). onAccepted counted (messageOf k d)) (c .before .if2 .taken))
 
--- src/message.rt:281:9
 zone-request-requires : tie.Need-zone-request-requires
 zone-request-requires c κs = search needs
 
--- src/message.rt:281:9
 returns-3 : tie.Need-returns-3
 unfolding messageOf plainListed
 returns-3 c =
     let d = c .before .before .before .before .before .before .args .«data» .now in
     c .zone-request .ensures ∙ sym (ap (λ (k : ℕ). onAccepted counted (messageOf k d)) (c .before .if3 .taken))
 
--- src/message.rt:284:9
 zone-status-requires : tie.Need-zone-status-requires
 zone-status-requires c κs = search needs
 
--- src/message.rt:284:9
 returns-4 : tie.Need-returns-4
 unfolding messageOf plainListed
 returns-4 c =
     let d = c .before .before .before .before .before .before .before .args .«data» .now in
     c .zone-status .ensures ∙ sym (ap (λ (k : ℕ). onAccepted counted (messageOf k d)) (c .before .if4 .taken))
 
--- src/message.rt:287:9
 events-requires : tie.Need-events-requires
 events-requires c κs = search needs
 
--- src/message.rt:287:9
 returns-5 : tie.Need-returns-5
 unfolding messageOf plainListed
 returns-5 c =
     let d = c .before .before .before .before .before .before .before .before .args .«data» .now in
     c .events .ensures ∙ sym (ap (λ (k : ℕ). onAccepted counted (messageOf k d)) (c .before .if5 .taken))
 
--- src/message.rt:290:9
 message-status-requires : tie.Need-message-status-requires
 message-status-requires c κs = search needs
 
--- src/message.rt:290:9
 returns-6 : tie.Need-returns-6
 unfolding messageOf plainListed
 returns-6 c =
     let d = c .before .before .before .before .before .before .before .before .before .args .«data» .now in
     c .message-status .ensures ∙ sym (ap (λ (k : ℕ). onAccepted counted (messageOf k d)) (c .before .if6 .taken))
 
--- src/message.rt:293:9
 log-entry-requires : tie.Need-log-entry-requires
 log-entry-requires c κs = search needs
 
--- src/message.rt:293:9
 returns-7 : tie.Need-returns-7
 unfolding messageOf plainListed
 returns-7 c =
     let d = c .before .before .before .before .before .before .before .before .before .before .args .«data» .now in
     c .log-entry .ensures ∙ sym (ap (λ (k : ℕ). onAccepted counted (messageOf k d)) (c .before .if7 .taken))
 
--- src/message.rt:296:9
 command-requires : tie.Need-command-requires
 command-requires c κs = search needs
 
--- src/message.rt:296:9
 returns-8 : tie.Need-returns-8
 unfolding messageOf plainListed
 returns-8 c =
     let d = c .before .before .before .before .before .before .before .before .before .before .before .args .«data» .now in
     c .command .ensures ∙ sym (ap (λ (k : ℕ). onAccepted counted (messageOf k d)) (c .before .if8 .taken))
 
--- src/message.rt:271:1
 returns-9 : tie.Need-returns-9
 returns-9 c =
     let at = c .before .before .before .before .before .before .before in

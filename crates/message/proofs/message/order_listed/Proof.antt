@@ -1,16 +1,12 @@
-use Rattle.message.specs.Message.{orderListed}
 use Rattle.message.proofs.Laws.Decided.{decided}
 use Rattle.message.proofs.message.order_listed.Statement.{statement}
 use Rattle.message.proofs.message.order_listed.Tie as tie
-use Rattle.message.proofs.message.order_listed.Reads as reads
-use Rattle.message.proofs.message.order_listed.Lts as lts
+use Rattle.message.specs.Message.{orderListed}
 
--- src/message.rt:153:9
 returns : tie.Need-returns
 unfolding orderListed
 returns c = search decided
 
--- src/message.rt:149:1
 returns-2 : tie.Need-returns-2
 unfolding orderListed
 returns-2 c = search decided

@@ -1,41 +1,32 @@
-use Rattle.message.specs.Message.{plainOf}
 use Rattle.message.proofs.Laws.Decided.{decided}
 use Rattle.message.proofs.message.plain_of.Statement.{statement}
 use Rattle.message.proofs.message.plain_of.Tie as tie
-use Rattle.message.proofs.message.plain_of.Reads as reads
-use Rattle.message.proofs.message.plain_of.Lts as lts
+use Rattle.message.specs.Message.{plainOf}
 
--- src/message.rt:82:9
 returns : tie.Need-returns
 unfolding plainOf
 returns c = search decided
 
--- src/message.rt:85:9
 returns-2 : tie.Need-returns-2
 unfolding plainOf
 returns-2 c = search decided
 
--- src/message.rt:88:9
 returns-3 : tie.Need-returns-3
 unfolding plainOf
 returns-3 c = search decided
 
--- src/message.rt:91:9
 returns-4 : tie.Need-returns-4
 unfolding plainOf
 returns-4 c = search decided
 
--- src/message.rt:94:9
 returns-5 : tie.Need-returns-5
 unfolding plainOf
 returns-5 c = search decided
 
--- src/message.rt:97:9
 returns-6 : tie.Need-returns-6
 unfolding plainOf
 returns-6 c = search decided
 
--- src/message.rt:78:1
 returns-7 : tie.Need-returns-7
 unfolding plainOf
 returns-7 c = search decided

@@ -1,41 +1,30 @@
-use mathlib.Core.Path.{sym, ap, _∙_}
-use mathlib.Core.List.{List}
 use Prim.Native.Nat.{ℕ}
+use borrow.Author.Needs.{needs}
+use mathlib.Core.List.{List}
+use mathlib.Core.Path.{sym, ap, _∙_}
 use Rattle.answer.specs.Answer.{onAccepted}
 use Rattle.link.specs.Frame.{outcomeOf}
-use Rattle.message.specs.Message.{messageOf, readMessage, counted}
-use Rattle.message.proofs.Laws.Framed.{framed, unframed}
 use Rattle.message.proofs.Laws.Decided.{decided}
-use borrow.Author.Needs.{needs}
+use Rattle.message.proofs.Laws.Framed.{framed, unframed}
 use Rattle.message.proofs.message.read.Statement.{statement}
 use Rattle.message.proofs.message.read.Tie as tie
-use Rattle.message.proofs.message.read.Reads as reads
-use Rattle.message.proofs.message.read.Lts as lts
-use Rattle.link.proofs.frame.data.Reads as data-reads
-use Rattle.link.proofs.frame.read.Reads as read-reads
-use Rattle.message.proofs.message.of_data.Reads as of-data-reads
+use Rattle.message.specs.Message.{messageOf, readMessage, counted}
 
--- src/message.rt:305:11
 read-requires : tie.Need-read-requires
 read-requires c κs = search needs
 
--- src/message.rt:306:31
 enum-known-kind : tie.Need-enum-known-kind
 enum-known-kind c = search needs
 
--- src/message.rt:306:62
 data-requires : tie.Need-data-requires
 data-requires c κs = search needs
 
--- src/message.rt:306:48
 of-data-requires : tie.Need-of-data-requires
 of-data-requires c κs = search needs
 
--- src/message.rt:307:28
 enum-known-r : tie.Need-enum-known-r
 enum-known-r c = search needs
 
--- src/message.rt:302:1
 returns : tie.Need-returns
 unfolding readMessage
 returns c =
@@ -47,7 +36,6 @@ returns c =
     ∙ ap (λ (x : List ℕ). onAccepted counted (messageOf k x)) (c .before .«data» .ensures)
     ∙ sym (ap (onAccepted counted) (framed s k n messageOf (sym (ap outcomeOf (at .kind .given .1)) ∙ at .before .before .read .ensures)))
 
--- src/message.rt:302:1
 returns-2 : tie.Need-returns-2
 unfolding readMessage
 returns-2 c =

@@ -1,40 +1,30 @@
-use mathlib.Core.Path.{sym, ap, _∙_}
-use mathlib.Core.List.{List}
 use Prim.Native.Nat.{ℕ}
-use lib.ListN.{length}
-use Rattle.answer.specs.Answer.{Outcome, onAccepted, outAfter}
-use Rattle.message.specs.Message.{messageRead}
-use Rattle.message.proofs.Laws.Framed.{frame-written, nothing-written}
-use Rattle.message.proofs.Laws.Decided.{decided}
 use borrow.Author.Needs.{needs}
+use lib.ListN.{length}
+use mathlib.Core.List.{List}
+use mathlib.Core.Path.{sym, ap, _∙_}
+use Rattle.answer.specs.Answer.{Outcome, onAccepted, outAfter}
+use Rattle.message.proofs.Laws.Decided.{decided}
+use Rattle.message.proofs.Laws.Framed.{frame-written, nothing-written}
 use Rattle.message.proofs.message.write.Statement.{statement}
 use Rattle.message.proofs.message.write.Tie as tie
-use Rattle.message.proofs.message.write.Reads as reads
-use Rattle.message.proofs.message.write.Lts as lts
-use Rattle.link.proofs.frame.write.Reads as write-reads
-use Rattle.message.proofs.message.of_data.Reads as of-data-reads
+use Rattle.message.specs.Message.{messageRead}
 
--- src/message.rt:316:11
 of-data-requires : tie.Need-of-data-requires
 of-data-requires c κs = search needs
 
--- src/message.rt:317:68
 enum-told : tie.Need-enum-told
 enum-told c = search needs
 
--- src/message.rt:317:37
 write-requires : tie.Need-write-requires
 write-requires c κs = search needs
 
--- src/message.rt:318:30
 enum-known-r : tie.Need-enum-known-r
 enum-known-r c = search needs
 
--- src/message.rt:312:1
 same-length : tie.Need-same-length
 same-length c = search needs
 
--- src/message.rt:312:1
 returns : tie.Need-returns
 returns c =
     let at = c .before .before .before .before in
@@ -47,7 +37,6 @@ returns c =
       at-write .ensures .1 ∙ sym (ap (λ (x : Outcome (List ℕ)). outAfter x (a .out .now)) o),
     )
 
--- src/message.rt:312:1
 returns-2 : tie.Need-returns-2
 returns-2 c =
     let at = c .before in

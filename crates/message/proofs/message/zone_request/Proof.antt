@@ -1,38 +1,30 @@
-use mathlib.Core.Path.{refl, sym, ap, _∙_}
-use mathlib.Core.Bool.{not}
-use native.Mathlib.Omega.{arith}
+use borrow.Author.Needs.{needs}
 use borrow.Author.Tests.{eq-eqb}
 use lib.ListN.{length, getD}
+use mathlib.Core.Bool.{not}
+use mathlib.Core.Path.{refl, sym, ap, _∙_}
+use native.Mathlib.Omega.{arith}
 use Rattle.answer.specs.Answer.{accepted, refuseIf, onAccepted}
 use Rattle.message.proofs.Laws.Checked.{refuses, passes}
-use Rattle.message.specs.declared.message.Fixed.the-variants as F
-use Rattle.message.specs.Message.{fixed, orderListed, readZoneRequest, counted}
 use Rattle.message.proofs.Laws.Decided.{decided}
-use borrow.Author.Needs.{needs}
 use Rattle.message.proofs.message.zone_request.Statement.{statement}
 use Rattle.message.proofs.message.zone_request.Tie as tie
-use Rattle.message.proofs.message.zone_request.Reads as reads
-use Rattle.message.proofs.message.zone_request.Lts as lts
-use Rattle.message.proofs.message.order_listed.Reads as order-listed-reads
+use Rattle.message.specs.Message.{fixed, orderListed, readZoneRequest, counted}
+use Rattle.message.specs.declared.message.Fixed.the-variants as F
 
--- src/message.rt:162:9
 returns : tie.Need-returns
 unfolding readZoneRequest
 returns c = search decided
 
--- src/message.rt:164:17
 shared-slice-read-first : tie.Need-shared-slice-read-first
 shared-slice-read-first c = search needs
 
--- src/message.rt:165:16
 shared-slice-read-last : tie.Need-shared-slice-read-last
 shared-slice-read-last c = search needs
 
--- src/message.rt:166:8
 order-listed-requires : tie.Need-order-listed-requires
 order-listed-requires c κs = search needs
 
--- src/message.rt:167:9
 returns-2 : tie.Need-returns-2
 unfolding readZoneRequest
 returns-2 c =
@@ -43,7 +35,6 @@ returns-2 c =
     (passes 8 read (c .before .order-listed .ensures) (c .if2 .taken)
     ∙ passes 7 (refuseIf (not order) 8 read) refl (eq-eqb (length d) 2 (omega arith)))
 
--- src/message.rt:158:1
 returns-3 : tie.Need-returns-3
 unfolding readZoneRequest
 returns-3 c =

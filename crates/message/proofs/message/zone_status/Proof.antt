@@ -1,47 +1,37 @@
-use Rattle.message.proofs.Laws.Kinds.{zones-refused, zones-accepted}
 use Prim.Native.Nat.{_%_}
-use native.Mathlib.Omega.{arith}
+use borrow.Author.Needs.{needs}
 use borrow.Author.Tests.{eq-eqb, ne-eqb, le-ltb}
 use lib.ListN.{length}
-use Rattle.message.specs.Message.{readZoneStatus}
+use native.Mathlib.Omega.{arith}
 use Rattle.message.proofs.Laws.Decided.{decided}
-use borrow.Author.Needs.{needs}
+use Rattle.message.proofs.Laws.Kinds.{zones-refused, zones-accepted}
 use Rattle.message.proofs.message.zone_status.Statement.{statement}
 use Rattle.message.proofs.message.zone_status.Tie as tie
-use Rattle.message.proofs.message.zone_status.Reads as reads
-use Rattle.message.proofs.message.zone_status.Lts as lts
-use Rattle.message.proofs.message.zones_listed.Reads as zones-listed-reads
+use Rattle.message.specs.Message.{readZoneStatus}
 
--- src/message.rt:195:9
 returns : tie.Need-returns
 unfolding readZoneStatus
 returns c = search decided
 
--- src/message.rt:198:9
 returns-2 : tie.Need-returns-2
 unfolding readZoneStatus
 returns-2 c = search decided
 
--- src/message.rt:201:9
 returns-3 : tie.Need-returns-3
 unfolding readZoneStatus
 returns-3 c = search decided
 
--- src/message.rt:203:8
 zones-listed-requires : tie.Need-zones-listed-requires
 zones-listed-requires c κs = search needs
 
--- src/message.rt:205:20
 cast-t10 : tie.Need-cast-t10
 cast-t10 c = search needs
 
--- src/message.rt:204:9
 returns-4 : tie.Need-returns-4
 returns-4 c =
     let d = c .before .before .before .before .before .before .args .«data» .now in
     zones-accepted d (omega arith) (omega arith) (omega arith) (c .before .zones-listed .ensures) (c .if4 .taken)
 
--- src/message.rt:190:1
 returns-5 : tie.Need-returns-5
 returns-5 c =
     let d = c .before .before .before .before .before .before .args .«data» .now in

@@ -1,16 +1,13 @@
-use mathlib.Core.Path.{_≡_, refl, sym, ap, _∙_}
-use mathlib.Core.Bool.{Bool, true, false, cond}
 use Prim.Native.Nat.{ℕ, suc, _+_, _-_, _%_, _≤_, zero-le}
-use native.Mathlib.Omega.{arith}
 use lib.ListN.{length, getD, drop}
-use Rattle.message.specs.Items.{zonesListed, zoneListed}
-use Rattle.message.proofs.Laws.Lists.{zones-step, zones-end}
+use mathlib.Core.Bool.{Bool, true, false, cond}
+use mathlib.Core.Path.{_≡_, refl, sym, ap, _∙_}
+use native.Mathlib.Omega.{arith}
 use Rattle.message.proofs.Laws.Decided.{decided}
+use Rattle.message.proofs.Laws.Lists.{zones-step, zones-end}
 use Rattle.message.proofs.message.zones_listed.Statement.{statement}
 use Rattle.message.proofs.message.zones_listed.Tie as tie
-use Rattle.message.proofs.message.zones_listed.Reads as reads
-use Rattle.message.proofs.message.zones_listed.Lts as lts
-use Rattle.message.proofs.items.zone_listed.Reads as zone-listed-reads
+use Rattle.message.specs.Items.{zonesListed, zoneListed}
 
 abbrev Inv-loop : tie.InvT-loop
 Inv-loop d i₀ i = (i ≤ length d) × ((length d - i) % 2 ≡ 0) × (zonesListed d ≡ zonesListed (drop i d))
@@ -18,27 +15,21 @@ Inv-loop d i₀ i = (i ≤ length d) × ((length d - i) % 2 ≡ 0) × (zonesList
 abbrev μ-loop : tie.MeasureT-loop
 μ-loop d i₀ i = length d - i
 
--- src/message.rt:178:5
 loop-holds : tie.Need-loop-holds Inv-loop μ-loop
 loop-holds c = (zero-le, omega arith, refl)
 
--- src/message.rt:179:31
 shared-slice-read-zone-listed : tie.Need-shared-slice-read-zone-listed Inv-loop μ-loop
 shared-slice-read-zone-listed c = omega arith
 
--- src/message.rt:179:12
 zone-listed-requires : tie.Need-zone-listed-requires Inv-loop μ-loop
 zone-listed-requires c κs = tt
 
--- src/message.rt:180:13
 add-i : tie.Need-add-i Inv-loop μ-loop
 add-i c = omega arith
 
--- src/message.rt:178:5
 loop-less : tie.Need-loop-less Inv-loop μ-loop
 loop-less c = omega arith
 
--- src/message.rt:178:5
 loop-again : tie.Need-loop-again Inv-loop μ-loop
 loop-again c =
     let at = c .before .before .before .before in
@@ -51,7 +42,6 @@ loop-again c =
           ∙ ap (λ (t : Bool). cond t (zonesListed (drop (at .loop .i + 2) d)) false) listed,
     )
 
--- src/message.rt:182:13
 returns : tie.Need-returns Inv-loop μ-loop
 returns c =
     let at = c .before .before .before .before in
@@ -61,7 +51,6 @@ returns c =
     ∙ zones-step d (at .loop .i) (omega arith)
     ∙ ap (λ (t : Bool). cond t (zonesListed (drop (at .loop .i + 2) d)) false) not-listed)
 
--- src/message.rt:173:1
 returns-2 : tie.Need-returns-2 Inv-loop μ-loop
 returns-2 c =
     let d = c .before .before .before .args .«data» .now in

@@ -1,48 +1,35 @@
-use Rattle.message.proofs.Laws.Decided.{decided}
 use borrow.Author.Needs.{needs}
+use Rattle.message.proofs.Laws.Decided.{decided}
 use Rattle.message.proofs.typed.duration_p1.Statement.{statement}
 use Rattle.message.proofs.typed.duration_p1.Tie as tie
-use Rattle.message.proofs.typed.duration_p1.Reads as reads
-use Rattle.message.proofs.typed.duration_p1.Lts as lts
-use Rattle.message.proofs.typed.above.Reads as above-reads
 
--- src/typed.rt:55:27
 enum-told : tie.Need-enum-told
 enum-told c = search needs
 
--- src/typed.rt:56:27
 enum-known-d : tie.Need-enum-known-d
 enum-known-d c = search needs
 
--- src/typed.rt:57:27
 enum-known-d-2 : tie.Need-enum-known-d-2
 enum-known-d-2 c = search needs
 
--- src/typed.rt:57:33
 above-requires : tie.Need-above-requires
 above-requires c κs = search needs
 
--- src/typed.rt:58:25
 enum-known-d-3 : tie.Need-enum-known-d-3
 enum-known-d-3 c = search needs
 
--- src/typed.rt:58:31
 above-requires-2 : tie.Need-above-requires-2
 above-requires-2 c κs = search needs
 
--- src/typed.rt:51:1
 returns : tie.Need-returns
 returns c = search needs
 
--- src/typed.rt:51:1
 returns-2 : tie.Need-returns-2
 returns-2 c = search needs
 
--- src/typed.rt:51:1
 returns-3 : tie.Need-returns-3
 returns-3 c = cc
 
--- src/typed.rt:51:1
 returns-4 : tie.Need-returns-4
 returns-4 c = cc
 

@@ -1,88 +1,65 @@
-use mathlib.Core.Path.{sym, ap, _∙_}
 use Prim.Native.Nat.{ℕ}
-use Rattle.message.specs.Typed.{encodedParameters, encodedCommand}
-use Rattle.message.proofs.Laws.Decided.{decided}
 use borrow.Author.Needs.{needs}
+use mathlib.Core.Path.{sym, ap, _∙_}
+use Rattle.message.proofs.Laws.Decided.{decided}
 use Rattle.message.proofs.typed.encoded_command.Statement.{statement}
 use Rattle.message.proofs.typed.encoded_command.Tie as tie
-use Rattle.message.proofs.typed.encoded_command.Reads as reads
-use Rattle.message.proofs.typed.encoded_command.Lts as lts
-use Rattle.message.proofs.typed.duration_p1.Reads as duration-p1-reads
-use Rattle.message.proofs.typed.encoded_parameters.Reads as encoded-parameters-reads
+use Rattle.message.specs.Typed.{encodedParameters, encodedCommand}
 
--- src/typed.rt:104:24
 enum-known-c : tie.Need-enum-known-c
 enum-known-c c = search needs
 
--- src/typed.rt:104:66
 duration-p1-requires : tie.Need-duration-p1-requires
 duration-p1-requires c κs = search needs
 
--- src/typed.rt:104:44
 encoded-parameters-requires : tie.Need-encoded-parameters-requires
 encoded-parameters-requires c κs = search needs
 
--- src/typed.rt:105:23
 enum-known-c-2 : tie.Need-enum-known-c-2
 enum-known-c-2 c = search needs
 
--- src/typed.rt:105:65
 duration-p1-requires-2 : tie.Need-duration-p1-requires-2
 duration-p1-requires-2 c κs = search needs
 
--- src/typed.rt:105:43
 encoded-parameters-requires-2 : tie.Need-encoded-parameters-requires-2
 encoded-parameters-requires-2 c κs = search needs
 
--- src/typed.rt:106:27
 enum-known-c-3 : tie.Need-enum-known-c-3
 enum-known-c-3 c = search needs
 
--- src/typed.rt:106:37
 encoded-parameters-requires-3 : tie.Need-encoded-parameters-requires-3
 encoded-parameters-requires-3 c κs = search needs
 
--- src/typed.rt:107:26
 enum-known-c-4 : tie.Need-enum-known-c-4
 enum-known-c-4 c = search needs
 
--- src/typed.rt:107:36
 encoded-parameters-requires-4 : tie.Need-encoded-parameters-requires-4
 encoded-parameters-requires-4 c κs = search needs
 
--- src/typed.rt:108:26
 enum-known-c-5 : tie.Need-enum-known-c-5
 enum-known-c-5 c = search needs
 
--- src/typed.rt:108:45
 encoded-parameters-requires-5 : tie.Need-encoded-parameters-requires-5
 encoded-parameters-requires-5 c κs = search needs
 
--- src/typed.rt:109:30
 enum-known-c-6 : tie.Need-enum-known-c-6
 enum-known-c-6 c = search needs
 
--- src/typed.rt:109:43
 encoded-parameters-requires-6 : tie.Need-encoded-parameters-requires-6
 encoded-parameters-requires-6 c κs = search needs
 
--- src/typed.rt:110:30
 enum-known-c-7 : tie.Need-enum-known-c-7
 enum-known-c-7 c = search needs
 
--- src/typed.rt:110:43
 encoded-parameters-requires-7 : tie.Need-encoded-parameters-requires-7
 encoded-parameters-requires-7 c κs = search needs
 
--- src/typed.rt:111:31
 enum-known-c-8 : tie.Need-enum-known-c-8
 enum-known-c-8 c = search needs
 
--- src/typed.rt:111:51
 encoded-parameters-requires-8 : tie.Need-encoded-parameters-requires-8
 encoded-parameters-requires-8 c κs = search needs
 
--- src/typed.rt:100:1
 returns : tie.Need-returns
 returns c =
     let at = c .before .before .before in
@@ -90,7 +67,6 @@ returns c =
     ∙ ap (λ (p : ℕ). encodedParameters 0 p (at .c .given .0 .1 .0)) (c .before .duration-p1 .ensures)
     ∙ sym (ap encodedCommand (at .c .given .1))
 
--- src/typed.rt:100:1
 returns-2 : tie.Need-returns-2
 returns-2 c =
     let at = c .before .before .before in
@@ -98,27 +74,21 @@ returns-2 c =
     ∙ ap (λ (p : ℕ). encodedParameters 1 p (at .c2 .given .0 .1 .0)) (c .before .duration-p12 .ensures)
     ∙ sym (ap encodedCommand (at .c2 .given .1))
 
--- src/typed.rt:100:1
 returns-3 : tie.Need-returns-3
 returns-3 c = cc
 
--- src/typed.rt:100:1
 returns-4 : tie.Need-returns-4
 returns-4 c = cc
 
--- src/typed.rt:100:1
 returns-5 : tie.Need-returns-5
 returns-5 c = cc
 
--- src/typed.rt:100:1
 returns-6 : tie.Need-returns-6
 returns-6 c = cc
 
--- src/typed.rt:100:1
 returns-7 : tie.Need-returns-7
 returns-7 c = cc
 
--- src/typed.rt:100:1
 returns-8 : tie.Need-returns-8
 returns-8 c = cc
 

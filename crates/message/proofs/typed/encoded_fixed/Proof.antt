@@ -1,146 +1,106 @@
-use mathlib.Core.Path.{sym, ap, _∙_}
-use Rattle.message.specs.Typed.{encodedFixed}
-use Rattle.message.proofs.Laws.Decided.{decided}
 use borrow.Author.Needs.{needs}
+use mathlib.Core.Path.{sym, ap, _∙_}
+use Rattle.message.proofs.Laws.Decided.{decided}
 use Rattle.message.proofs.typed.encoded_fixed.Statement.{statement}
 use Rattle.message.proofs.typed.encoded_fixed.Tie as tie
-use Rattle.message.proofs.typed.encoded_fixed.Reads as reads
-use Rattle.message.proofs.typed.encoded_fixed.Lts as lts
-use Rattle.message.proofs.typed.encoded_0.Reads as encoded-0-reads
-use Rattle.message.proofs.typed.encoded_2.Reads as encoded-2-reads
-use Rattle.message.proofs.typed.encoded_4.Reads as encoded-4-reads
-use Rattle.message.proofs.typed.encoded_command.Reads as encoded-command-reads
-use Rattle.message.proofs.typed.encoded_log.Reads as encoded-log-reads
+use Rattle.message.specs.Typed.{encodedFixed}
 
--- src/typed.rt:162:31
 enum-told : tie.Need-enum-told
 enum-told c = search needs
 
--- src/typed.rt:162:31
 encoded-0-requires : tie.Need-encoded-0-requires
 encoded-0-requires c κs = search needs
 
--- src/typed.rt:163:39
 enum-told-2 : tie.Need-enum-told-2
 enum-told-2 c = search needs
 
--- src/typed.rt:163:39
 encoded-0-requires-2 : tie.Need-encoded-0-requires-2
 encoded-0-requires-2 c κs = search needs
 
--- src/typed.rt:164:34
 enum-told-3 : tie.Need-enum-told-3
 enum-told-3 c = search needs
 
--- src/typed.rt:164:34
 encoded-0-requires-3 : tie.Need-encoded-0-requires-3
 encoded-0-requires-3 c κs = search needs
 
--- src/typed.rt:165:44
 enum-told-4 : tie.Need-enum-told-4
 enum-told-4 c = search needs
 
--- src/typed.rt:165:44
 encoded-0-requires-4 : tie.Need-encoded-0-requires-4
 encoded-0-requires-4 c κs = search needs
 
--- src/typed.rt:166:39
 enum-told-5 : tie.Need-enum-told-5
 enum-told-5 c = search needs
 
--- src/typed.rt:166:39
 encoded-0-requires-5 : tie.Need-encoded-0-requires-5
 encoded-0-requires-5 c κs = search needs
 
--- src/typed.rt:167:26
 enum-told-6 : tie.Need-enum-told-6
 enum-told-6 c = search needs
 
--- src/typed.rt:167:26
 encoded-0-requires-6 : tie.Need-encoded-0-requires-6
 encoded-0-requires-6 c κs = search needs
 
--- src/typed.rt:168:39
 enum-told-7 : tie.Need-enum-told-7
 enum-told-7 c = search needs
 
--- src/typed.rt:168:39
 encoded-0-requires-7 : tie.Need-encoded-0-requires-7
 encoded-0-requires-7 c κs = search needs
 
--- src/typed.rt:170:13
 enum-known-f : tie.Need-enum-known-f
 enum-known-f c = search needs
 
--- src/typed.rt:174:14
 encoded-4-requires : tie.Need-encoded-4-requires
 encoded-4-requires c κs = search needs
 
--- src/typed.rt:175:30
 enum-known-f-2 : tie.Need-enum-known-f-2
 enum-known-f-2 c = search needs
 
--- src/typed.rt:175:47
 encoded-2-requires : tie.Need-encoded-2-requires
 encoded-2-requires c κs = search needs
 
--- src/typed.rt:176:25
 enum-known-f-3 : tie.Need-enum-known-f-3
 enum-known-f-3 c = search needs
 
--- src/typed.rt:176:31
 encoded-log-requires : tie.Need-encoded-log-requires
 encoded-log-requires c κs = search needs
 
--- src/typed.rt:177:24
 enum-known-f-4 : tie.Need-enum-known-f-4
 enum-known-f-4 c = search needs
 
--- src/typed.rt:177:30
 encoded-command-requires : tie.Need-encoded-command-requires
 encoded-command-requires c κs = search needs
 
--- src/typed.rt:158:1
 returns : tie.Need-returns
 returns c = cc
 
--- src/typed.rt:158:1
 returns-2 : tie.Need-returns-2
 returns-2 c = cc
 
--- src/typed.rt:158:1
 returns-3 : tie.Need-returns-3
 returns-3 c = cc
 
--- src/typed.rt:158:1
 returns-4 : tie.Need-returns-4
 returns-4 c = cc
 
--- src/typed.rt:158:1
 returns-5 : tie.Need-returns-5
 returns-5 c = cc
 
--- src/typed.rt:158:1
 returns-6 : tie.Need-returns-6
 returns-6 c = cc
 
--- src/typed.rt:158:1
 returns-7 : tie.Need-returns-7
 returns-7 c = cc
 
--- src/typed.rt:158:1
 returns-8 : tie.Need-returns-8
 returns-8 c = c .encoded-4 .ensures ∙ sym (ap encodedFixed (c .before .before .f .given .1))
 
--- src/typed.rt:158:1
 returns-9 : tie.Need-returns-9
 returns-9 c = cc
 
--- src/typed.rt:158:1
 returns-10 : tie.Need-returns-10
 returns-10 c = c .encoded-log .ensures ∙ sym (ap encodedFixed (c .before .before .f3 .given .1))
 
--- src/typed.rt:158:1
 returns-11 : tie.Need-returns-11
 returns-11 c = search needs
 

@@ -1,14 +1,10 @@
 use Rattle.message.proofs.Laws.Decided.{decided}
 use Rattle.message.proofs.typed.in_range.Statement.{statement}
 use Rattle.message.proofs.typed.in_range.Tie as tie
-use Rattle.message.proofs.typed.in_range.Reads as reads
-use Rattle.message.proofs.typed.in_range.Lts as lts
 
--- src/typed.rt:26:9
 returns : tie.Need-returns
 returns c = search decided
 
--- src/typed.rt:22:1
 returns-2 : tie.Need-returns-2
 returns-2 c = search decided
 

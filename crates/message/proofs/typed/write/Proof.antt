@@ -1,82 +1,62 @@
-use mathlib.Core.Path.{refl, sym, ap, _∙_}
-use mathlib.Core.List.{List}
 use Prim.Native.Nat.{ℕ}
-use lib.ListN.{length}
-use Rattle.answer.specs.Answer.{Outcome, refuseIf, inRoom}
-use Rattle.message.proofs.Laws.Framed.{leaves-same, leaves-nothing}
-use Rattle.message.specs.Typed.{writeCounted}
-use Rattle.message.specs.declared.message.Message.{Message as Counted}
-use Rattle.message.specs.declared.message.Message.the-variants as C
-use Rattle.message.proofs.Laws.Decided.{decided}
 use borrow.Author.Needs.{needs}
+use lib.ListN.{length}
+use mathlib.Core.List.{List}
+use mathlib.Core.Path.{refl, sym, ap, _∙_}
+use Rattle.answer.specs.Answer.{Outcome, refuseIf, inRoom}
+use Rattle.message.proofs.Laws.Decided.{decided}
+use Rattle.message.proofs.Laws.Framed.{leaves-same, leaves-nothing}
 use Rattle.message.proofs.typed.write.Statement.{statement}
 use Rattle.message.proofs.typed.write.Tie as tie
-use Rattle.message.proofs.typed.write.Reads as reads
-use Rattle.message.proofs.typed.write.Lts as lts
-use Rattle.message.proofs.typed.write_fixed.Reads as write-fixed-reads
-use Rattle.message.proofs.typed.write_items.Reads as write-items-reads
+use Rattle.message.specs.Typed.{writeCounted}
+use Rattle.message.specs.declared.message.Message.the-variants as C
+use Rattle.message.specs.declared.message.Message.{Message as Counted}
 
--- src/typed.rt:221:24
 enum-known-m : tie.Need-enum-known-m
 enum-known-m c = search needs
 
--- src/typed.rt:221:30
 write-fixed-requires : tie.Need-write-fixed-requires
 write-fixed-requires c κs = search needs
 
--- src/typed.rt:222:31
 enum-known-m-2 : tie.Need-enum-known-m-2
 enum-known-m-2 c = search needs
 
--- src/typed.rt:222:64
 cast-write-items : tie.Need-cast-write-items
 cast-write-items c = search needs
 
--- src/typed.rt:222:60
 mul-write-items : tie.Need-mul-write-items
 mul-write-items c = search needs
 
--- src/typed.rt:222:42
 write-items-requires : tie.Need-write-items-requires
 write-items-requires c κs = search needs
 
--- src/typed.rt:223:27
 enum-known-m-3 : tie.Need-enum-known-m-3
 enum-known-m-3 c = search needs
 
--- src/typed.rt:223:60
 cast-write-items-2 : tie.Need-cast-write-items-2
 cast-write-items-2 c = search needs
 
--- src/typed.rt:223:56
 mul-write-items-2 : tie.Need-mul-write-items-2
 mul-write-items-2 c = search needs
 
--- src/typed.rt:223:38
 write-items-requires-2 : tie.Need-write-items-requires-2
 write-items-requires-2 c κs = search needs
 
--- src/typed.rt:224:34
 enum-known-m-4 : tie.Need-enum-known-m-4
 enum-known-m-4 c = search needs
 
--- src/typed.rt:224:67
 cast-write-items-3 : tie.Need-cast-write-items-3
 cast-write-items-3 c = search needs
 
--- src/typed.rt:224:63
 add-write-items : tie.Need-add-write-items
 add-write-items c = search needs
 
--- src/typed.rt:224:45
 write-items-requires-3 : tie.Need-write-items-requires-3
 write-items-requires-3 c κs = search needs
 
--- src/typed.rt:216:1
 same-length : tie.Need-same-length
 same-length c = search needs
 
--- src/typed.rt:216:1
 returns : tie.Need-returns
 returns c =
     let at = c .before .before .before .before .before in
@@ -86,11 +66,9 @@ returns c =
     (ap (λ (m : Counted). inRoom (length (a .out .now)) (writeCounted m items)) (at .m .given .1))
     (c .before .before .write-fixed .ensures .0) (c .before .before .write-fixed .ensures .1)
 
--- src/typed.rt:216:1
 same-length-2 : tie.Need-same-length-2
 same-length-2 c = search needs
 
--- src/typed.rt:216:1
 returns-2 : tie.Need-returns-2
 returns-2 c =
     let at = c .before .before .before .before .before in
@@ -100,11 +78,9 @@ returns-2 c =
     (ap (λ (m : Counted). inRoom (length (a .out .now)) (writeCounted m items)) (at .m2 .given .1))
     (c .before .before .write-items .ensures .0) (c .before .before .write-items .ensures .1)
 
--- src/typed.rt:216:1
 same-length-3 : tie.Need-same-length-3
 same-length-3 c = search needs
 
--- src/typed.rt:216:1
 returns-3 : tie.Need-returns-3
 returns-3 c =
     let at = c .before .before .before .before .before in
@@ -114,11 +90,9 @@ returns-3 c =
     (ap (λ (m : Counted). inRoom (length (a .out .now)) (writeCounted m items)) (at .m3 .given .1))
     (c .before .before .write-items2 .ensures .0) (c .before .before .write-items2 .ensures .1)
 
--- src/typed.rt:216:1
 same-length-4 : tie.Need-same-length-4
 same-length-4 c = search needs
 
--- src/typed.rt:216:1
 returns-4 : tie.Need-returns-4
 returns-4 c =
     let at = c .before .before .before .before .before in

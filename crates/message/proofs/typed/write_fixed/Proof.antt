@@ -1,58 +1,46 @@
-use mathlib.Core.Path.{subst⁻¹}
 use Prim.Native.Nat.{_≤_}
-use lib.Seq.{length-take-le}
-use Rattle.message.proofs.Laws.Encoded.{within}
-use mathlib.Core.Path.{refl, sym, ap, _∙_}
-use mathlib.Core.List.{List}
 use Prim.Native.Nat.{ℕ}
+use borrow.Author.Needs.{needs}
 use lib.ListN.{length}
+use lib.Seq.{length-take-le}
+use mathlib.Core.List.{List}
+use mathlib.Core.Path.{refl, sym, ap, _∙_}
+use mathlib.Core.Path.{subst⁻¹}
 use Rattle.answer.specs.Answer.{Outcome, refuseIf, inRoom}
+use Rattle.message.proofs.Laws.Checked.{refuses, passes}
+use Rattle.message.proofs.Laws.Decided.{decided}
+use Rattle.message.proofs.Laws.Encoded.{within}
 use Rattle.message.proofs.Laws.Framed.{leaves-same, leaves-nothing}
+use Rattle.message.proofs.typed.write_fixed.Statement.{statement}
+use Rattle.message.proofs.typed.write_fixed.Tie as tie
 use Rattle.message.specs.Message.{writeMessage}
 use Rattle.message.specs.Typed.{dataOf, encodedFixed, writeFixed}
 use Rattle.message.specs.declared.typed.Encoded.{Encoded}
-use Rattle.message.proofs.Laws.Checked.{refuses, passes}
-use Rattle.message.proofs.Laws.Decided.{decided}
-use borrow.Author.Needs.{needs}
-use Rattle.message.proofs.typed.write_fixed.Statement.{statement}
-use Rattle.message.proofs.typed.write_fixed.Tie as tie
-use Rattle.message.proofs.typed.write_fixed.Reads as reads
-use Rattle.message.proofs.typed.write_fixed.Lts as lts
-use Rattle.message.proofs.message.write.Reads as write-reads
-use Rattle.message.proofs.typed.encoded_fixed.Reads as encoded-fixed-reads
-use Rattle.message.proofs.typed.fits.Reads as fits-reads
 
--- src/typed.rt:195:8
 fits-requires : tie.Need-fits-requires
 fits-requires c κs = search needs
 
--- src/typed.rt:196:13
 encoded-fixed-requires : tie.Need-encoded-fixed-requires
 encoded-fixed-requires c κs = search needs
 
--- src/typed.rt:199:39
 array-share-prefix-bytes : tie.Need-array-share-prefix-bytes
 array-share-prefix-bytes c =
     subst⁻¹ (λ (e : Encoded). e .count ≤ length (e .bytes)) (c .before .encoded-fixed .ensures)
     (within (c .before .before .before .before .before .args .f))
 
--- src/typed.rt:199:39
 slice-aggregate-write : tie.Need-slice-aggregate-write
 slice-aggregate-write c =
     let e = c .before .before .encoded-fixed .result in
     sym (length-take-le (e .count) (e .bytes)
-      (subst⁻¹ (λ (x : Encoded). x .count ≤ length (x .bytes)) (c .before .before .encoded-fixed .ensures)
-      (within (c .before .before .before .before .before .before .args .f))))
+    (subst⁻¹ (λ (x : Encoded). x .count ≤ length (x .bytes)) (c .before .before .encoded-fixed .ensures)
+    (within (c .before .before .before .before .before .before .args .f))))
 
--- src/typed.rt:199:9
 write-requires : tie.Need-write-requires
 write-requires c κs = search needs
 
--- src/typed.rt:199:9
 same-length : tie.Need-same-length
 same-length c = search needs
 
--- src/typed.rt:199:9
 returns : tie.Need-returns
 unfolding writeFixed
 returns c =
@@ -66,7 +54,6 @@ returns c =
     ∙ sym (ap (λ (x : Encoded). writeMessage (x .kind) (dataOf x)) (at .encoded-fixed .ensures))))
     (c .before .before .write .ensures .0) (c .before .before .write .ensures .1)
 
--- src/typed.rt:191:1
 returns-2 : tie.Need-returns-2
 unfolding writeFixed
 returns-2 c =

@@ -1,22 +1,18 @@
-use mathlib.Core.Path.{refl, sym, ap, _∙_}
-use mathlib.Core.List.{List}
 use Prim.Native.Nat.{ℕ}
-use lib.ListN.{length}
-use Rattle.answer.specs.Answer.{Outcome, refuseIf, inRoom}
-use Rattle.message.proofs.Laws.Framed.{leaves-same, leaves-nothing}
+use borrow.Author.Needs.{needs}
 use borrow.Author.Tests.{eq-eqb, ne-eqb}
-use Rattle.message.specs.Message.{writeMessage}
-use Rattle.message.specs.Typed.{writeItems}
+use lib.ListN.{length}
+use mathlib.Core.List.{List}
+use mathlib.Core.Path.{refl, sym, ap, _∙_}
+use Rattle.answer.specs.Answer.{Outcome, refuseIf, inRoom}
 use Rattle.message.proofs.Laws.Checked.{refuses, passes}
 use Rattle.message.proofs.Laws.Decided.{decided}
-use borrow.Author.Needs.{needs}
+use Rattle.message.proofs.Laws.Framed.{leaves-same, leaves-nothing}
 use Rattle.message.proofs.typed.write_items.Statement.{statement}
 use Rattle.message.proofs.typed.write_items.Tie as tie
-use Rattle.message.proofs.typed.write_items.Reads as reads
-use Rattle.message.proofs.typed.write_items.Lts as lts
-use Rattle.message.proofs.message.write.Reads as write-reads
+use Rattle.message.specs.Message.{writeMessage}
+use Rattle.message.specs.Typed.{writeItems}
 
--- src/typed.rt:210:9
 returns : tie.Need-returns
 unfolding writeItems
 returns c =
@@ -26,15 +22,12 @@ returns c =
     (ap (inRoom (length (a .out .now)))
     (sym (refuses 7 (writeMessage (a .kind) items) refl (ne-eqb (length items) (a .size) (c .if1 .taken)))))
 
--- src/typed.rt:212:5
 write-requires : tie.Need-write-requires
 write-requires c κs = search needs
 
--- src/typed.rt:205:1
 same-length : tie.Need-same-length
 same-length c = search needs
 
--- src/typed.rt:205:1
 returns-2 : tie.Need-returns-2
 unfolding writeItems
 returns-2 c =
