@@ -1,3 +1,4 @@
+pub mod Bytes
 pub mod Distance
 pub mod Ladder
 pub mod RoundTrip

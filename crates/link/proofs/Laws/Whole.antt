@@ -1,16 +1,18 @@
 -- What the reader's acceptance says about the bytes. Assumes nothing.
-use mathlib.Core.Path.{_≡_, refl, sym, ap, ap₂, _∙_}
+use mathlib.Core.Path.{_≡_, refl, sym, ap, ap₂, subst⁻¹, _∙_}
 use mathlib.Core.Bool.{Bool, true, false, not, cond}
 use mathlib.Core.List.{List, [], _∷_, _++_}
 use Prim.Native.Nat.{ℕ, zero, suc, _+_, _-_, _*_, _<_, _≤_}
 use native.Mathlib.Omega.{arith}
 use lib.Dec.{T, eqb, ltb}
 use lib.ListN.{length, getD, take, drop, length-take, length-drop}
+use lib.Pow.{areBytes}
 use lib.Seq.{take-at}
 use borrow.Author.Tests.{eqb-true, eqb-false, ltb-false, not-false, le-leb}
 use Rattle.answer.specs.Answer.{Outcome, refused, accepted, refuseIf}
 use Rattle.answer.proofs.Laws.Test.{passed}
 use Rattle.crc.specs.Crc.{crc}
+use Rattle.crc.proofs.Laws.Bits.{take-bytes, drop-bytes}
 use Rattle.link.specs.Frame.{Frame, covered, sent, readBody, readFrame, body, dataPart}
 
 -- the facts behind an accepted frame
@@ -95,6 +97,10 @@ module _ (s : List ℕ) (f : Frame) (e : readFrame s ≡ accepted f) where
       ap (λ (t : Bool). cond t (take (length (f .bytes)) (drop 3 s)) []) (le-leb (3 + length (f .bytes)) (length s) (omega arith))
       ∙ ap (λ (k : ℕ). take k (drop 3 s)) l
       ∙ sym (ap (λ (g : Frame). g .bytes) (w .is))
+
+  pub data-bytes : T (areBytes s) → T (areBytes (f .bytes))
+  data-bytes t =
+      subst⁻¹ (λ (g : Frame). T (areBytes (g .bytes))) (whole s f e .is) (take-bytes (getD s 1 0 - 1) (drop 3 s) (drop-bytes 3 s t))
 
   -- what the CRC covers is what a writer has it cover
   pub covers : covered s (getD s 1 0) ≡ body (f .kind) (f .bytes)

@@ -1,0 +1,11 @@
+pub mod Checked
+pub mod Decided
+pub mod Decode
+pub mod Duration
+pub mod Encode
+pub mod Encoded
+pub mod Framed
+pub mod Item
+pub mod Kinds
+pub mod Lists
+pub mod RoundTrip

@@ -1,0 +1,29 @@
+-- A check by a test that the code worked out. Assumes nothing.
+use mathlib.Core.Path.{_≡_, refl, sym, ap, _∙_}
+use mathlib.Core.Bool.{Bool, true, false, not}
+use Prim.Native.Nat.{ℕ}
+use native.Mathlib.Omega.{arith}
+use Rattle.answer.specs.Answer.{Outcome, refused, accepted, refuseIf, onAccepted}
+
+module _ {A : Type 0} (n : ℕ) (later : Outcome A) {t listed : Bool} (is : t ≡ listed) where
+  pub refuses : t ≡ false → refused n ≡ refuseIf (not listed) n later
+  refuses e = ap (λ (b : Bool). refuseIf (not b) n later) (sym e ∙ is)
+
+  pub passes : t ≡ true → later ≡ refuseIf (not listed) n later
+  passes e = ap (λ (b : Bool). refuseIf (not b) n later) (sym e ∙ is)
+
+-- what is done of what is accepted may be done behind the check
+pub behind-check : {A B : Type 0} (f : A → B) (t : Bool) (n : ℕ) (later : Outcome A)
+    → onAccepted f (refuseIf t n later) ≡ refuseIf t n (onAccepted f later)
+behind-check f true n later = refl
+behind-check f false n later = refl
+
+-- what stands behind an answer that was mapped
+pub was-accepted : {A B : Type 0} (f : A → B) (o : Outcome A) (b : B) → accepted b ≡ onAccepted f o
+    → (a : A) × (o ≡ accepted a) × (b ≡ f a)
+was-accepted f (refused n) b e = let z : _≡_ {A = ℕ} 0 1 = cc in let no : ⊥ = omega arith in absurd no
+was-accepted f (accepted a) b e = (a, refl, cc)
+
+pub was-refused : {A B : Type 0} (f : A → B) (o : Outcome A) (n : ℕ) → refused n ≡ onAccepted f o → o ≡ refused n
+was-refused f (refused m) n e = cc
+was-refused f (accepted a) n e = let z : _≡_ {A = ℕ} 0 1 = cc in let no : ⊥ = omega arith in absurd no

@@ -1,0 +1,232 @@
+-- What is decoded is encoded to itself: each message that data bytes carry is written as those bytes. Assumes nothing.
+use mathlib.Core.Path.{_≡_, refl, sym, ap, ap₂, subst, _∙_}
+use mathlib.Core.Bool.{Bool, true, false, not, cond}
+use mathlib.Core.List.{List, [], _∷_}
+use Prim.Native.Nat.{ℕ, zero, suc, _+_, _*_, _/_, _%_, _<_, _≤_}
+use native.Mathlib.Decide.{ℕ-discrete, decLt}
+use native.Mathlib.Omega.{arith}
+use lib.Dec.{T, eqb, ltb, leb, ltb→lt}
+use lib.Ieee.Fits.{and-l, and-r}
+use lib.ListN.{length, getD, drop}
+use lib.Pow.{areBytes}
+use borrow.Author.Tests.{eq-eqb, ne-eqb, lt-ltb, le-ltb, eqb-true, eqb-false, ltb-true, leb-true}
+use Rattle.message.specs.Command.{durationOf, durationListed, commandListed, commandOf}
+use Rattle.message.specs.Items.{conditionOf, latchedOf, armingOf, zoneOf, zoneListed, zonesListed, textOf, zones, words, texts}
+use Rattle.message.specs.Message.{plainListed}
+use Rattle.message.specs.Typed.{durationP1, commandFits, encodedCommand, encodedParameters, conditionBits, latchedBits, armingBits, flag, statusByte, zoneBytes, eventBytes, textBits, textBytes}
+use Rattle.message.specs.declared.typed.Encoded.{Encoded}
+use Rattle.message.specs.declared.items.Condition.{Condition}
+use Rattle.message.specs.declared.items.Condition.the-variants as Condition
+use Rattle.message.specs.declared.items.LatchedAlarm.{LatchedAlarm}
+use Rattle.message.specs.declared.items.LatchedAlarm.the-variants as LatchedAlarm
+use Rattle.message.specs.declared.items.Arming.{Arming}
+use Rattle.message.specs.declared.items.Arming.the-variants as Arming
+use Rattle.message.proofs.Laws.Duration.{p1-after-duration}
+
+-- ---- lists of a known length, by their elements
+
+pub none-of : (d : List ℕ) → length d ≡ 0 → d ≡ []
+none-of [] e = refl
+none-of (a ∷ d) e = let z : ⊥ = omega arith in absurd z
+
+pub leading : (d : List ℕ) → getD d 0 0 ≡ 0 → (length d ≡ 0 → ⊥) → 0 ∷ drop 1 d ≡ d
+leading [] e some = absurd (some refl)
+leading (a ∷ d) e some = ap {B = List ℕ} (λ x. x ∷ d) (sym e)
+
+pub two-of : (d : List ℕ) → length d ≡ 2 → d ≡ getD d 0 0 ∷ getD d 1 0 ∷ []
+two-of [] e = let z : ⊥ = omega arith in absurd z
+two-of (a ∷ []) e = let z : ⊥ = omega arith in absurd z
+two-of (a ∷ b ∷ []) e = refl
+two-of (a ∷ b ∷ c ∷ d) e = let z : ⊥ = omega arith in absurd z
+
+pub four-of : (d : List ℕ) → length d ≡ 4 → d ≡ getD d 0 0 ∷ getD d 1 0 ∷ getD d 2 0 ∷ getD d 3 0 ∷ []
+four-of [] e = let z : ⊥ = omega arith in absurd z
+four-of (a ∷ []) e = let z : ⊥ = omega arith in absurd z
+four-of (a ∷ b ∷ d) e = ap {B = List ℕ} (λ t. a ∷ b ∷ t) (two-of d (omega arith))
+
+pub ten-of : (d : List ℕ) → length d ≡ 10
+    → d ≡ getD d 0 0 ∷ getD d 1 0 ∷ getD d 2 0 ∷ getD d 3 0 ∷ getD d 4 0 ∷ getD d 5 0 ∷ getD d 6 0 ∷ getD d 7 0 ∷ getD d 8 0 ∷ getD d 9 0 ∷ []
+ten-of [] e = let z : ⊥ = omega arith in absurd z
+ten-of (a ∷ []) e = let z : ⊥ = omega arith in absurd z
+ten-of (a ∷ b ∷ []) e = let z : ⊥ = omega arith in absurd z
+ten-of (a ∷ b ∷ c ∷ []) e = let z : ⊥ = omega arith in absurd z
+ten-of (a ∷ b ∷ c ∷ f ∷ []) e = let z : ⊥ = omega arith in absurd z
+ten-of (a ∷ b ∷ c ∷ f ∷ g ∷ []) e = let z : ⊥ = omega arith in absurd z
+ten-of (a ∷ b ∷ c ∷ f ∷ g ∷ h ∷ d) e = ap {B = List ℕ} (λ t. a ∷ b ∷ c ∷ f ∷ g ∷ h ∷ t) (four-of d (omega arith))
+
+-- ---- the seven types without data
+
+pub which-plain : (P : ℕ → Type 0) → P 0x05 → P 0x06 → P 0x0D → P 0x11 → P 0x13 → P 0x21 → P 0x22 → (kind : ℕ) → plainListed kind ≡ true → P kind
+unfolding plainListed
+which-plain P a b c d e f g kind h =
+    pick 0x05 a _ (λ h. pick 0x06 b _ (λ h. pick 0x0D c _ (λ h. pick 0x11 d _ (λ h. pick 0x13 e _ (λ h. pick 0x21 f _ (λ h. subst P (sym (eqb-true kind 0x22 h)) g) h) h) h) h) h) h
+  where
+    pick : (k : ℕ) → P k → (later : Bool) → (later ≡ true → P kind) → cond (eqb kind k) true later ≡ true → P kind
+    pick k p later go h = by (eqb kind k) refl h
+      where
+        by : (t : Bool) → eqb kind k ≡ t → cond t true later ≡ true → P kind
+        by true q x = subst P (sym (eqb-true kind k q)) p
+        by false q x = go x
+
+-- ---- commands
+
+-- a nested test that holds, branch by branch
+branch : {G : Type 0} (t a b : Bool) → (t ≡ true → a ≡ true → G) → (b ≡ true → G) → cond t a b ≡ true → G
+branch true a b then′ other h = then′ refl h
+branch false a b then′ other h = other h
+
+pub never : {G : Type 0} → _≡_ {A = Bool} false true → G
+never e = let z : _≡_ {A = ℕ} 0 1 = ap (λ t. cond t 1 0) e in let nothing : ⊥ = omega arith in absurd nothing
+
+module _ (p1 p2 : ℕ) where
+  abbrev Same : ℕ → Type 0
+  Same number = (commandFits (commandOf number p1 p2) ≡ true) × (encodedCommand (commandOf number p1 p2) ≡ encodedParameters number p1 p2)
+
+  timed : durationListed p1 ≡ true → (commandFits (commandOf 0 p1 p2) ≡ true) × (encodedCommand (commandOf 0 p1 p2) ≡ encodedParameters 0 p1 p2)
+  unfolding commandOf
+  timed h = let d = p1-after-duration p1 h in (d .0, ap (λ (p : ℕ). encodedParameters 0 p p2) (d .1))
+
+  timed-on : durationListed p1 ≡ true → (commandFits (commandOf 1 p1 p2) ≡ true) × (encodedCommand (commandOf 1 p1 p2) ≡ encodedParameters 1 p1 p2)
+  unfolding commandOf
+  timed-on h = let d = p1-after-duration p1 h in (d .0, ap (λ (p : ℕ). encodedParameters 1 p p2) (d .1))
+
+  plain-2 : eqb p1 0 ≡ true → Same 2
+  unfolding commandOf
+  plain-2 h = (refl, ap (λ (p : ℕ). encodedParameters 2 p p2) (sym (eqb-true p1 0 h)))
+
+  plain-3 : eqb p1 0 ≡ true → Same 3
+  unfolding commandOf
+  plain-3 h = (refl, ap (λ (p : ℕ). encodedParameters 3 p p2) (sym (eqb-true p1 0 h)))
+
+  plain-10 : eqb p1 0 ≡ true → Same 10
+  unfolding commandOf
+  plain-10 h = (refl, ap (λ (p : ℕ). encodedParameters 10 p p2) (sym (eqb-true p1 0 h)))
+
+  plain-11 : eqb p1 0 ≡ true → Same 11
+  unfolding commandOf
+  plain-11 h = (refl, ap (λ (p : ℕ). encodedParameters 11 p p2) (sym (eqb-true p1 0 h)))
+
+  valued-9 : Same 9
+  unfolding commandOf
+  valued-9 = (refl, refl)
+
+  valued-12 : Same 12
+  unfolding commandOf
+  valued-12 = (refl, refl)
+
+  below-two : (number : ℕ) → number < 2 → durationListed p1 ≡ true → Same number
+  below-two zero h l = timed l
+  below-two (suc zero) h l = timed-on l
+  below-two (suc (suc n)) h l = let z : ⊥ = omega arith in absurd z
+
+  at : (number k : ℕ) → eqb number k ≡ true → Same k → Same number
+  at number k e h = subst Same (sym (eqb-true number k e)) h
+
+  pub command-encoded : (number : ℕ) → commandListed number p1 p2 ≡ true
+      → (commandFits (commandOf number p1 p2) ≡ true) × (encodedCommand (commandOf number p1 p2) ≡ encodedParameters number p1 p2)
+  unfolding commandListed
+  command-encoded number listed =
+      branch (eqb number 2) _ _ (λ e h. at number 2 e (plain-2 h))
+      (branch (eqb number 3) _ _ (λ e h. at number 3 e (plain-3 h))
+      (branch (eqb p2 0) _ _ (λ e h. never h)
+      (branch (ltb number 2) _ _ (λ e h. below-two number (ltb-true number 2 e) h)
+      (branch (eqb number 9) _ _ (λ e h. at number 9 e valued-9)
+      (branch (eqb number 10) _ _ (λ e h. at number 10 e (plain-10 h))
+      (branch (eqb number 11) _ _ (λ e h. at number 11 e (plain-11 h))
+      (λ e. at number 12 e valued-12))))))) listed
+
+-- ---- a word in two bytes
+
+pub word-apart : (hi lo w : ℕ) → lo < 256 → w ≡ hi * 256 + lo → (w / 256 ≡ hi) × (w % 256 ≡ lo)
+word-apart hi lo w h e = (omega arith, omega arith)
+
+-- ---- lists
+
+pub events-encoded : (d : List ℕ) → T (areBytes d) → length d % 2 ≡ 0 → eventBytes (words d) ≡ d
+events-encoded [] t e = refl
+events-encoded (a ∷ []) t e = let z : ⊥ = omega arith in absurd z
+events-encoded (a ∷ b ∷ d) t e =
+    let rest = and-r (ltb a 256) (areBytes (b ∷ d)) t in
+    let w = word-apart a b (a * 256 + b) (ltb→lt b 256 (and-l (ltb b 256) (areBytes d) rest)) refl in
+    let tail : eventBytes (words d) ≡ d = events-encoded d (and-r (ltb b 256) (areBytes d) rest) (omega arith) in
+    λ i. w .0 i ∷ w .1 i ∷ tail i
+
+condition-value : (v : ℕ) → v < 3 → conditionBits (cond (eqb v 0) Condition.Secure (cond (eqb v 1) Condition.NotReady Condition.Trouble)) ≡ v
+condition-value zero h = refl
+condition-value (suc zero) h = refl
+condition-value (suc (suc zero)) h = refl
+condition-value (suc (suc (suc v))) h = let z : ⊥ = omega arith in absurd z
+
+latched-value : (v : ℕ) → v < 3 → latchedBits (cond (eqb v 0) LatchedAlarm.Secure (cond (eqb v 1) LatchedAlarm.Tripped LatchedAlarm.Reset)) ≡ v
+latched-value zero h = refl
+latched-value (suc zero) h = refl
+latched-value (suc (suc zero)) h = refl
+latched-value (suc (suc (suc v))) h = let z : ⊥ = omega arith in absurd z
+
+arming-value : (v : ℕ) → v < 4
+    → armingBits (cond (eqb v 0) Arming.Disarmed (cond (eqb v 1) Arming.Armed (cond (eqb v 2) Arming.BypassedByUser Arming.BypassedBySystem))) ≡ v
+arming-value zero h = refl
+arming-value (suc zero) h = refl
+arming-value (suc (suc zero)) h = refl
+arming-value (suc (suc (suc zero))) h = refl
+arming-value (suc (suc (suc (suc v)))) h = let z : ⊥ = omega arith in absurd z
+
+flag-value : (v : ℕ) → v < 2 → flag (eqb v 1) ≡ v
+flag-value zero h = refl
+flag-value (suc zero) h = refl
+flag-value (suc (suc v)) h = let z : ⊥ = omega arith in absurd z
+
+-- a byte is the sum of its four pairs of bits
+four-sum : (b x y z w : ℕ) → b < 256 → x ≡ b / 64 → y ≡ b / 16 % 4 → z ≡ b / 4 % 4 → w ≡ b % 4 → 64 * x + 16 * y + 4 * z + w ≡ b
+four-sum b x y z w h hx hy hz hw = omega arith
+
+-- a status byte is the sum of its fields
+status-sum : (s c l a t : ℕ) → s < 128 → c ≡ s % 4 → l ≡ s / 4 % 4 → a ≡ s / 16 % 4 → t ≡ s / 64 % 2 → c + 4 * l + 16 * a + 64 * t ≡ s
+status-sum s c l a t h hc hl ha ht =
+    let top : s / 64 % 2 ≡ s / 64 = omega arith in
+    let order : c + 4 * l + 16 * a + 64 * t ≡ 64 * t + 16 * a + 4 * l + c = omega arith in
+    order ∙ four-sum s t a l c (omega arith) (ht ∙ top) ha hl hc
+
+-- what a listed status byte is
+zone-facts : (s : ℕ) → zoneListed s ≡ true → (s % 4 ≡ 3 → ⊥) × (s / 4 % 4 ≡ 3 → ⊥) × (s < 128)
+zone-facts s e = first (eqb (s % 4) 3) refl e
+  where
+    second : (s % 4 ≡ 3 → ⊥) → (t : Bool) → eqb (s / 4 % 4) 3 ≡ t → cond t false (ltb s 128) ≡ true → (s % 4 ≡ 3 → ⊥) × (s / 4 % 4 ≡ 3 → ⊥) × (s < 128)
+    second a true q h = never h
+    second a false q h = (a, eqb-false (s / 4 % 4) 3 q, ltb-true s 128 h)
+
+    first : (t : Bool) → eqb (s % 4) 3 ≡ t → cond t false (cond (eqb (s / 4 % 4) 3) false (ltb s 128)) ≡ true → (s % 4 ≡ 3 → ⊥) × (s / 4 % 4 ≡ 3 → ⊥) × (s < 128)
+    first true q h = never h
+    first false q h = second (eqb-false (s % 4) 3 q) (eqb (s / 4 % 4) 3) refl h
+
+status-back : (s r : ℕ) → zoneListed s ≡ true → statusByte (zoneOf s r) ≡ s
+status-back s r e =
+    let f = zone-facts s e in
+    let a : s % 4 < 3 = omega (arith, f .0) in
+    let b : s / 4 % 4 < 3 = omega (arith, f .1) in
+    status-sum s _ _ _ _ (f .2) (condition-value (s % 4) a) (latched-value (s / 4 % 4) b) (arming-value (s / 16 % 4) (omega arith)) (flag-value (s / 64 % 2) (omega arith))
+
+pub zones-encoded : (d : List ℕ) → length d % 2 ≡ 0 → zonesListed d ≡ true → zoneBytes (zones d) ≡ d
+zones-encoded [] e l = refl
+zones-encoded (a ∷ []) e l = let z : ⊥ = omega arith in absurd z
+zones-encoded (a ∷ b ∷ d) e l = by (zoneListed a) refl l (λ h. zones-encoded d (omega arith) h)
+  where
+    by : (t : Bool) → zoneListed a ≡ t → cond t (zonesListed d) false ≡ true → (zonesListed d ≡ true → zoneBytes (zones d) ≡ d) → zoneBytes (zones (a ∷ b ∷ d)) ≡ a ∷ b ∷ d
+    by true q h ih = let tail : zoneBytes (zones d) ≡ d = ih h in let head : statusByte (zoneOf a b) ≡ a = status-back a b q in λ i. head i ∷ b ∷ tail i
+    by false q h ih = never h
+
+text-value : (v : ℕ) → v < 4 → textBits (textOf v) ≡ v
+text-value zero h = refl
+text-value (suc zero) h = refl
+text-value (suc (suc zero)) h = refl
+text-value (suc (suc (suc zero))) h = refl
+text-value (suc (suc (suc (suc v)))) h = let z : ⊥ = omega arith in absurd z
+
+pub texts-encoded : (d : List ℕ) → T (areBytes d) → textBytes (texts d) ≡ d
+texts-encoded [] t = refl
+texts-encoded (b ∷ d) t =
+    let h : b < 256 = ltb→lt b 256 (and-l (ltb b 256) (areBytes d) t) in
+    let head =
+    four-sum b _ _ _ _ h (text-value (b / 64) (omega arith)) (text-value (b / 16 % 4) (omega arith)) (text-value (b / 4 % 4) (omega arith)) (text-value (b % 4) (omega arith)) in
+    let tail : textBytes (texts d) ≡ d = texts-encoded d (and-r (ltb b 256) (areBytes d) t) in
+    λ i. head i ∷ tail i

@@ -1,0 +1,48 @@
+-- A message in its frame, by what the frame reader hands back. Assumes nothing.
+use mathlib.Core.Path.{_≡_, refl, sym, ap, ap₂, _∙_}
+use mathlib.Core.List.{List}
+use Prim.Native.Nat.{ℕ}
+use lib.ListN.{length}
+use Rattle.answer.specs.Answer.{Outcome, refused, accepted, andThen, onAccepted, inRoom, outAfter}
+use Rattle.link.specs.Frame.{Frame, Header, header, readFrame, writeFrame, dataPart}
+use Rattle.link.proofs.Laws.Whole.{data-part}
+use Rattle.message.specs.Message.{Message, messageOf, readMessage, writeMessage, counted}
+use Rattle.message.specs.declared.message.Message.{Message as Counted}
+use Rattle.message.proofs.Laws.Checked.{was-accepted, was-refused}
+
+module _ (s : List ℕ) where
+  -- what is done of an accepted frame is done of its kind and its data part
+  pub framed : {A : Type 0} (k n : ℕ) (g : ℕ → List ℕ → Outcome A) → accepted (record { kind = k; count = n }) ≡ onAccepted header (readFrame s)
+      → andThen (readFrame s) (λ f. g (f .kind) (f .bytes)) ≡ g k (dataPart s n)
+  framed {A = A} k n g e =
+      let w = was-accepted header (readFrame s) (record { kind = k; count = n }) e in
+      let f = w .0 in
+      ap (λ (o : Outcome Frame). andThen o (λ f. g (f .kind) (f .bytes))) (w .1)
+      ∙ ap (g (f .kind)) (sym (data-part s f (w .1)))
+      ∙ ap (λ (h : Header). g (h .kind) (dataPart s (h .count))) (sym (w .2))
+
+  pub unframed : {A : Type 0} (m : ℕ) (g : ℕ → List ℕ → Outcome A) → refused m ≡ onAccepted header (readFrame s)
+      → andThen (readFrame s) (λ f. g (f .kind) (f .bytes)) ≡ refused m
+  unframed m g e = ap (λ (o : Outcome Frame). andThen o (λ f. g (f .kind) (f .bytes))) (was-refused header (readFrame s) m e)
+
+-- what a writer does behind the checks
+module _ (kind : ℕ) (d : List ℕ) (room : ℕ) where
+  pub frame-written : (c : Counted) → accepted c ≡ onAccepted counted (messageOf kind d) → inRoom room (writeMessage kind d) ≡ inRoom room (writeFrame kind d)
+  unfolding writeMessage
+  frame-written c e =
+      ap (λ (o : Outcome Message). inRoom room (andThen o (λ m. writeFrame kind d))) (was-accepted counted (messageOf kind d) c e .1)
+
+  pub nothing-written : (n : ℕ) → refused n ≡ onAccepted counted (messageOf kind d) → inRoom room (writeMessage kind d) ≡ refused n
+  unfolding writeMessage
+  nothing-written n e =
+      ap (λ (o : Outcome Message). inRoom room (andThen o (λ m. writeFrame kind d))) (was-refused counted (messageOf kind d) n e)
+
+-- what a call below leaves is what the call above leaves, where their outcomes are the same
+pub leaves-same : (o below : Outcome (List ℕ)) (old final : List ℕ) (w : Outcome ℕ) → o ≡ below
+    → w ≡ onAccepted length below → final ≡ outAfter below old → (w ≡ onAccepted length o) × (final ≡ outAfter o old)
+leaves-same o below old final w e a f =
+    (a ∙ sym (ap (onAccepted length) e), f ∙ sym (ap (λ (x : Outcome (List ℕ)). outAfter x old) e))
+
+pub leaves-nothing : (o : Outcome (List ℕ)) (old : List ℕ) (n : ℕ) → o ≡ refused n
+    → (refused n ≡ onAccepted length o) × (old ≡ outAfter o old)
+leaves-nothing o old n e = leaves-same o (refused n) old old (refused n) e refl refl

@@ -1,0 +1,55 @@
+-- The readers by type: what leads to each answer. Assumes nothing.
+use mathlib.Core.Path.{_≡_, refl, sym, ap, _∙_}
+use mathlib.Core.Bool.{Bool, true, false, not}
+use mathlib.Core.List.{List}
+use Prim.Native.Nat.{ℕ, _+_, _*_, _/_, _%_, _≤_}
+use native.Mathlib.Omega.{arith}
+use lib.Dec.{eqb}
+use lib.ListN.{length, getD, drop, length-drop}
+use borrow.Author.Tests.{eq-eqb, ne-eqb, le-ltb}
+use Rattle.answer.specs.Answer.{Outcome, refused, accepted, refuseIf, onAccepted}
+use Rattle.message.specs.Items.{zoneOf, zones, zonesListed, texts}
+use Rattle.message.specs.Message.{zoneStatus, messageStatus, statusLength, plainListed, readPlain, readZoneStatus, readMessageStatus, messageOf, counted}
+use Rattle.message.specs.declared.message.Message.{Message as Counted}
+use Rattle.message.specs.declared.message.Message.the-variants as C
+use Rattle.message.proofs.Laws.Checked.{refuses, passes, behind-check}
+use Rattle.message.proofs.Laws.Lists.{pairs-length, texts-length}
+
+-- zone status, once the length is right
+module _ (d : List ℕ) (even : length d % 2 ≡ 0) (some : length d ≡ 0 → ⊥) (few : length d ≤ 64) where
+  by-zones : readZoneStatus d ≡ refuseIf (not (zonesListed d)) 8 (accepted (zoneStatus (zones d)))
+  unfolding readZoneStatus
+  by-zones = simp (eq-eqb (length d % 2) 0 even, ne-eqb (length d) 0 some, le-ltb 64 (length d) few)
+
+  module _ {t : Bool} (is : t ≡ zonesListed d) where
+    pub zones-refused : t ≡ false → refused 8 ≡ onAccepted counted (readZoneStatus d)
+    zones-refused e = ap (onAccepted counted) (refuses 8 (accepted (zoneStatus (zones d))) is e ∙ sym by-zones)
+
+    pub zones-accepted : t ≡ true → accepted (C.ZoneStatus (length d / 2)) ≡ onAccepted counted (readZoneStatus d)
+    zones-accepted e =
+        ap (λ (n : ℕ). accepted (C.ZoneStatus n)) (sym (pairs-length zoneOf d))
+        ∙ ap (onAccepted counted) (passes 8 (accepted (zoneStatus (zones d))) is e ∙ sym by-zones)
+
+-- message status, at a right length
+pub status-read : (d : List ℕ) (n count : ℕ) → length d ≡ n → statusLength n ≡ true → 4 * n ≡ count + 4
+    → refuseIf (not (eqb (getD d 0 0) 0)) 8 (accepted (C.MessageStatus count)) ≡ onAccepted counted (readMessageStatus d)
+unfolding readMessageStatus
+status-read d n count e listed four =
+    let t = not (eqb (getD d 0 0) 0) in
+    let shorter : length (drop 1 d) + 1 ≡ n = simp length-drop (omega arith) in
+    let size : count ≡ length (texts (drop 1 d)) = omega (arith, texts-length (drop 1 d)) in
+    ap (λ (k : ℕ). refuseIf t 8 (accepted (C.MessageStatus k))) size
+    ∙ sym (behind-check counted t 8 (accepted (messageStatus (texts (drop 1 d)))))
+    ∙ ap (onAccepted counted) (passes 7 (refuseIf t 8 (accepted (messageStatus (texts (drop 1 d))))) refl (ap statusLength e ∙ listed))
+
+-- the seven types without data, and the types that are not listed
+module _ (kind : ℕ) (d : List ℕ) where
+  pub is-plain : plainListed kind ≡ true → messageOf kind d ≡ readPlain kind d
+  unfolding messageOf
+  is-plain e = simp e
+
+  pub unknown : plainListed kind ≡ false → (kind ≡ 0x20 → ⊥) → (kind ≡ 0x15 → ⊥) → (kind ≡ 0x16 → ⊥) → (kind ≡ 0x23 → ⊥) → (kind ≡ 0x25 → ⊥)
+      → (kind ≡ 0x0E → ⊥) → (kind ≡ 0x0F → ⊥) → messageOf kind d ≡ refused 6
+  unfolding messageOf
+  unknown e a b c f g h k =
+      simp (e, ne-eqb kind 0x20 a, ne-eqb kind 0x15 b, ne-eqb kind 0x16 c, ne-eqb kind 0x23 f, ne-eqb kind 0x25 g, ne-eqb kind 0x0E h, ne-eqb kind 0x0F k)

@@ -1,0 +1,165 @@
+-- What is written reads back as the same message, and what is read writes back to the same bytes. Assumes nothing.
+use mathlib.Core.Path.{_≡_, refl, sym, ap, ap₂, _∙_}
+use mathlib.Core.Bool.{Bool, true, false, not}
+use mathlib.Core.List.{List, [], _∷_}
+use Prim.Native.Nat.{ℕ, _+_, _*_, _/_, _%_}
+use native.Mathlib.Omega.{arith}
+use lib.Dec.{T, eqb}
+use lib.ListN.{length, getD, drop}
+use lib.Pow.{areBytes}
+use borrow.Author.Tests.{eq-eqb, eqb-true, not-false}
+use Rattle.answer.specs.Answer.{Outcome, refused, accepted, refuseIf, andThen}
+use Rattle.answer.proofs.Laws.Test.{passed, not-accepted}
+use Rattle.link.proofs.Laws.Bytes.{byte-at, drop-bytes}
+use Rattle.link.specs.Frame.{Frame, readFrame, writeFrame}
+use Rattle.link.proofs.Laws.RoundTrip as Frames
+use Rattle.link.proofs.Laws.Whole.{data-bytes}
+use Rattle.message.specs.Command.{commandListed, commandOf, checkedCommand, readCommand}
+use Rattle.message.specs.Items.{zones, zonesListed, words, texts}
+use Rattle.message.specs.Log.{logListed, logOf, readLog}
+use Rattle.message.specs.declared.command.Command.{Command}
+use Rattle.message.specs.declared.log.LogEntry.{LogEntry}
+use Rattle.message.specs.declared.message.Fixed.the-variants as F
+use Rattle.message.specs.Message.{Message, fixed, zoneStatus, events, messageStatus, messageOf, readMessage, writeMessage, plainListed, plainOf, statusLength}
+use Rattle.message.specs.Typed.{fixedFits, commandFits, encodedCommand, encodedLog, encodedFixed, dataOf, zoneBytes, eventBytes, textBytes, writeFixed, write}
+use Rattle.message.specs.declared.message.Fixed.{Fixed}
+use Rattle.message.specs.declared.items.Zone.{Zone}
+use Rattle.message.specs.declared.items.TextMessage.{TextMessage}
+use Rattle.message.proofs.Laws.Decode.{command-kind, fixed-back, zones-back, events-back, texts-back}
+use Rattle.message.proofs.Laws.Checked.{passes}
+use Rattle.message.proofs.Laws.Lists.{texts-length}
+use Rattle.message.proofs.Laws.Item.{zones-of, events-of, texts-of, every-type, every-plain, every-login, every-request, every-zones, every-events, every-texts, every-log, every-command}
+use Rattle.message.proofs.Laws.Encode.{none-of, leading, never, two-of, four-of, ten-of, which-plain, command-encoded, word-apart, events-encoded, zones-encoded, texts-encoded}
+
+-- a written type and data bytes are read as what they carry
+reads-written : (kind : ℕ) (d s : List ℕ) → writeMessage kind d ≡ accepted s → readMessage s ≡ messageOf kind d
+unfolding writeMessage readMessage
+reads-written kind d s e = by (messageOf kind d) refl e
+  where
+    by : (o : Outcome Message) → messageOf kind d ≡ o → andThen o (λ m. writeFrame kind d) ≡ accepted s
+        → andThen (readFrame s) (λ f. messageOf (f .kind) (f .bytes)) ≡ messageOf kind d
+    by (refused n) q h = absurd (not-accepted n s h)
+    by (accepted m) q h = ap (λ (o : Outcome Frame). andThen o (λ f. messageOf (f .kind) (f .bytes))) (Frames.read-after-write kind d s h)
+
+carried : (kind : ℕ) (d s : List ℕ) → writeMessage kind d ≡ accepted s → (m : Message) × (messageOf kind d ≡ accepted m)
+unfolding writeMessage
+carried kind d s e = by (messageOf kind d) refl e
+  where
+    by : (o : Outcome Message) → messageOf kind d ≡ o → andThen o (λ m. writeFrame kind d) ≡ accepted s → (m : Message) × (messageOf kind d ≡ accepted m)
+    by (refused n) q h = absurd (not-accepted n s h)
+    by (accepted m) q h = (m, q)
+
+same-read : (kind : ℕ) (d s : List ℕ) (m : Message) → writeMessage kind d ≡ accepted s
+    → ((r : Message) → messageOf kind d ≡ accepted r → r ≡ m) → readMessage s ≡ accepted m
+same-read kind d s m e back =
+    let c = carried kind d s e in
+    reads-written kind d s e ∙ c .1 ∙ ap accepted (back (c .0) (c .1))
+
+pub read-after-write : (m : Message) (s : List ℕ) → write m ≡ accepted s → readMessage s ≡ accepted m
+unfolding write writeFixed messageOf plainListed
+read-after-write (fixed f) s e =
+    let p = passed (not (fixedFits f)) 8 (writeMessage (encodedFixed f .kind) (dataOf (encodedFixed f))) s e in
+    same-read (encodedFixed f .kind) (dataOf (encodedFixed f)) s (fixed f) (p .1) (fixed-back f (not-false (fixedFits f) (p .0)))
+read-after-write (zoneStatus zs) s e =
+    same-read 0x16 (zoneBytes zs) s (zoneStatus zs) e (λ r h. zones-of (zoneBytes zs) r h ∙ ap zoneStatus (zones-back zs))
+read-after-write (events es) s e =
+    same-read 0x23 (eventBytes es) s (events es) e (λ r h. events-of (eventBytes es) r h ∙ ap events (events-back es))
+read-after-write (messageStatus ts) s e =
+    let p = passed (not (eqb (length ts % 4) 0)) 7 (writeMessage 0x25 (0 ∷ textBytes ts)) s e in
+    let four : length ts % 4 ≡ 0 = eqb-true (length ts % 4) 0 (not-false (eqb (length ts % 4) 0) (p .0)) in
+    same-read 0x25 (0 ∷ textBytes ts) s (messageStatus ts) (p .1)
+    (λ r h. texts-of (0 ∷ textBytes ts) r h ∙ ap messageStatus (texts-back ts four))
+
+-- ---- what is read writes back
+
+-- from a message that data bytes carry, the same data bytes
+module _ (kind : ℕ) (d : List ℕ) (bytes : T (areBytes d)) where
+  abbrev Back : Message → Type 0
+  Back m = write m ≡ writeMessage kind d
+
+  plain-back : plainListed kind ≡ true → length d ≡ 0 → Back (fixed (plainOf kind))
+  unfolding write writeFixed plainOf
+  plain-back listed none =
+      let nil : [] ≡ d = sym (none-of d none) in
+      which-plain (λ k. write (fixed (plainOf k)) ≡ writeMessage k d) (ap (writeMessage 0x05) nil) (ap (writeMessage 0x06) nil) (ap (writeMessage 0x0D) nil)
+      (ap (writeMessage 0x11) nil) (ap (writeMessage 0x13) nil) (ap (writeMessage 0x21) nil) (ap (writeMessage 0x22) nil) kind listed
+
+  login-back : kind ≡ 0x20 → length d ≡ 4 → Back (fixed (F.Login (getD d 0 0) (getD d 1 0) (getD d 2 0) (getD d 3 0)))
+  unfolding write writeFixed
+  login-back is four = sym (ap₂ writeMessage is (four-of d four))
+
+  request-back : kind ≡ 0x15 → length d ≡ 2 → Back (fixed (F.ZoneRequest (getD d 0 0) (getD d 1 0)))
+  unfolding write writeFixed
+  request-back is two = sym (ap₂ writeMessage is (two-of d two))
+
+  zones-written : kind ≡ 0x16 → length d % 2 ≡ 0 → zonesListed d ≡ true → Back (zoneStatus (zones d))
+  unfolding write
+  zones-written is even listed = sym (ap₂ writeMessage is (sym (zones-encoded d even listed)))
+
+  events-written : kind ≡ 0x23 → length d % 2 ≡ 0 → Back (events (words d))
+  unfolding write
+  events-written is even = sym (ap₂ writeMessage is (sym (events-encoded d bytes even)))
+
+  texts-written : kind ≡ 0x25 → statusLength (length d) ≡ true → getD d 0 0 ≡ 0 → Back (messageStatus (texts (drop 1 d)))
+  unfolding write statusLength
+  texts-written is listed blank =
+      let some : length d ≡ 0 → ⊥ = λ none. never (sym (ap statusLength none) ∙ listed) in
+      let fours : length (texts (drop 1 d)) % 4 ≡ 0 = omega (arith, texts-length (drop 1 d)) in
+      sym (passes 7 (writeMessage 0x25 (0 ∷ textBytes (texts (drop 1 d)))) refl (eq-eqb (length (texts (drop 1 d)) % 4) 0 fours))
+      ∙ ap₂ writeMessage (sym is)
+      (ap {B = List ℕ} (λ x. 0 ∷ x) (texts-encoded (drop 1 d) (drop-bytes 1 d bytes)) ∙ leading d blank some)
+
+  -- parameter 2 of the log entry and P2 of a command, in the two bytes that they came from
+  last-two : (k j : ℕ) → (getD d k 0 * 256 + getD d j 0) / 256 ∷ (getD d k 0 * 256 + getD d j 0) % 256 ∷ [] ≡ getD d k 0 ∷ getD d j 0 ∷ []
+  last-two k j =
+      let w = word-apart (getD d k 0) (getD d j 0) (getD d k 0 * 256 + getD d j 0) (byte-at d bytes j) refl in
+      ap₂ {C = List ℕ} (λ x y. x ∷ y ∷ []) (w .0) (w .1)
+
+  log-bytes : length d ≡ 10 → dataOf (encodedLog (logOf d)) ≡ d
+  unfolding logOf
+  log-bytes ten =
+      ap (λ (t : List ℕ). getD d 0 0 ∷ getD d 1 0 ∷ getD d 2 0 ∷ getD d 3 0 ∷ getD d 4 0 ∷ getD d 5 0 ∷ getD d 6 0 ∷ getD d 7 0 ∷ t) (last-two 8 9)
+      ∙ sym (ten-of d ten)
+
+  log-written : kind ≡ 0x0E → (e : LogEntry) → readLog d ≡ accepted e → Back (fixed (F.LogEntry e))
+  unfolding write writeFixed readLog
+  log-written is e h =
+      let p = passed (not (eqb (length d) 10)) 7 _ e h in
+      let q = passed (not (logListed (logOf d))) 8 _ e (p .1) in
+      let ten : length d ≡ 10 = eqb-true (length d) 10 (not-false (eqb (length d) 10) (p .0)) in
+      let same : e ≡ logOf d = cc (q .1) in
+      ap₂ writeMessage (sym is) (ap (λ (x : LogEntry). dataOf (encodedLog x)) same ∙ log-bytes ten)
+
+  command-written : kind ≡ 0x0F → (c : Command) → readCommand d ≡ accepted c → Back (fixed (F.Command c))
+  unfolding write writeFixed readCommand checkedCommand
+  command-written is c h =
+      let n = getD d 0 0 in
+      let p1 = getD d 1 0 in
+      let p2 = getD d 2 0 * 256 + getD d 3 0 in
+      let p = passed (not (eqb (length d) 4)) 7 _ c h in
+      let q = passed (not (commandListed n p1 p2)) 8 _ c (p .1) in
+      let four : length d ≡ 4 = eqb-true (length d) 4 (not-false (eqb (length d) 4) (p .0)) in
+      let same : c ≡ commandOf n p1 p2 = cc (q .1) in
+      let e = command-encoded p1 p2 n (not-false (commandListed n p1 p2) (q .0)) in
+      let bytes-back : dataOf (encodedCommand c) ≡ d =
+      ap (λ (x : Command). dataOf (encodedCommand x)) same ∙ ap dataOf (e .1)
+      ∙ ap {B = List ℕ} (λ t. n ∷ p1 ∷ t) (last-two 2 3) ∙ sym (four-of d four) in
+      sym (passes 8 (writeMessage (encodedCommand c .kind) (dataOf (encodedCommand c))) refl (ap commandFits same ∙ e .0))
+      ∙ ap₂ writeMessage (command-kind c ∙ sym is) bytes-back
+
+  written-back : (m : Message) → messageOf kind d ≡ accepted m → Back m
+  written-back =
+      every-type Back kind d (λ l. every-plain Back kind d (plain-back l)) (λ is. every-login Back d (login-back is))
+      (λ is. every-request Back d (request-back is)) (λ is. every-zones Back d (zones-written is)) (λ is. every-events Back d (events-written is))
+      (λ is. every-texts Back d (texts-written is)) (λ is. every-log Back d (log-written is)) (λ is. every-command Back d (command-written is))
+
+pub write-after-read : (s : List ℕ) (m : Message) → T (areBytes s) → readMessage s ≡ accepted m → write m ≡ accepted s
+unfolding readMessage writeMessage
+write-after-read s m t e = by (readFrame s) refl e
+  where
+    by : (o : Outcome Frame) → readFrame s ≡ o → andThen o (λ f. messageOf (f .kind) (f .bytes)) ≡ accepted m → write m ≡ accepted s
+    by (refused n) q h = absurd (not-accepted n m h)
+    by (accepted f) q h =
+        written-back (f .kind) (f .bytes) (data-bytes s f q t) m h
+        ∙ ap (λ (o : Outcome Message). andThen o (λ x. writeFrame (f .kind) (f .bytes))) h
+        ∙ Frames.write-after-read s f t q

@@ -1,0 +1,15 @@
+use Rattle.message.proofs.Laws.Decided.{decided}
+use Rattle.message.proofs.command.duration_listed.Statement.{statement}
+use Rattle.message.proofs.command.duration_listed.Tie as tie
+
+returns : tie.Need-returns
+returns c = search decided
+
+returns-2 : tie.Need-returns-2
+returns-2 c = search decided
+
+returns-3 : tie.Need-returns-3
+returns-3 c = search decided
+
+pub duration-listed-spec : {M : Type 1} → statement M
+duration-listed-spec = tie.close (tie.spec returns returns-2 returns-3)

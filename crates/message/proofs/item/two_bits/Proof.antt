@@ -1,0 +1,18 @@
+use Rattle.message.proofs.Laws.Decided.{decided}
+use Rattle.message.proofs.item.two_bits.Statement.{statement}
+use Rattle.message.proofs.item.two_bits.Tie as tie
+
+returns : tie.Need-returns
+returns c = search decided
+
+returns-2 : tie.Need-returns-2
+returns-2 c = search decided
+
+returns-3 : tie.Need-returns-3
+returns-3 c = search decided
+
+returns-4 : tie.Need-returns-4
+returns-4 c = search decided
+
+pub two-bits-spec : {M : Type 1} → statement M
+two-bits-spec = tie.close (tie.spec returns returns-2 returns-3 returns-4)

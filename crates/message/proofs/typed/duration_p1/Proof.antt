@@ -1,0 +1,49 @@
+use borrow.Author.Needs.{needs}
+use Rattle.message.proofs.Laws.Decided.{decided}
+use Rattle.message.proofs.typed.duration_p1.Statement.{statement}
+use Rattle.message.proofs.typed.duration_p1.Tie as tie
+
+enum-told : tie.Need-enum-told
+enum-told c = search needs
+
+enum-known-d : tie.Need-enum-known-d
+enum-known-d c = search needs
+
+enum-known-d-2 : tie.Need-enum-known-d-2
+enum-known-d-2 c = search needs
+
+above-requires : tie.Need-above-requires
+above-requires c κs = search needs
+
+enum-known-d-3 : tie.Need-enum-known-d-3
+enum-known-d-3 c = search needs
+
+above-requires-2 : tie.Need-above-requires-2
+above-requires-2 c κs = search needs
+
+returns : tie.Need-returns
+returns c = search needs
+
+returns-2 : tie.Need-returns-2
+returns-2 c = search needs
+
+returns-3 : tie.Need-returns-3
+returns-3 c = cc
+
+returns-4 : tie.Need-returns-4
+returns-4 c = cc
+
+pub duration-p1-spec : {M : Type 1} → statement M
+duration-p1-spec =
+    tie.close
+    (tie.spec
+    enum-told
+    enum-known-d
+    enum-known-d-2
+    above-requires
+    enum-known-d-3
+    above-requires-2
+    returns
+    returns-2
+    returns-3
+    returns-4)

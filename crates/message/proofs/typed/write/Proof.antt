@@ -1,0 +1,130 @@
+use Prim.Native.Nat.{ℕ}
+use borrow.Author.Needs.{needs}
+use lib.ListN.{length}
+use mathlib.Core.List.{List}
+use mathlib.Core.Path.{refl, sym, ap, _∙_}
+use Rattle.answer.specs.Answer.{Outcome, refuseIf, inRoom}
+use Rattle.message.proofs.Laws.Decided.{decided}
+use Rattle.message.proofs.Laws.Framed.{leaves-same, leaves-nothing}
+use Rattle.message.proofs.typed.write.Statement.{statement}
+use Rattle.message.proofs.typed.write.Tie as tie
+use Rattle.message.specs.Typed.{writeCounted}
+use Rattle.message.specs.declared.message.Message.the-variants as C
+use Rattle.message.specs.declared.message.Message.{Message as Counted}
+
+enum-known-m : tie.Need-enum-known-m
+enum-known-m c = search needs
+
+write-fixed-requires : tie.Need-write-fixed-requires
+write-fixed-requires c κs = search needs
+
+enum-known-m-2 : tie.Need-enum-known-m-2
+enum-known-m-2 c = search needs
+
+cast-write-items : tie.Need-cast-write-items
+cast-write-items c = search needs
+
+mul-write-items : tie.Need-mul-write-items
+mul-write-items c = search needs
+
+write-items-requires : tie.Need-write-items-requires
+write-items-requires c κs = search needs
+
+enum-known-m-3 : tie.Need-enum-known-m-3
+enum-known-m-3 c = search needs
+
+cast-write-items-2 : tie.Need-cast-write-items-2
+cast-write-items-2 c = search needs
+
+mul-write-items-2 : tie.Need-mul-write-items-2
+mul-write-items-2 c = search needs
+
+write-items-requires-2 : tie.Need-write-items-requires-2
+write-items-requires-2 c κs = search needs
+
+enum-known-m-4 : tie.Need-enum-known-m-4
+enum-known-m-4 c = search needs
+
+cast-write-items-3 : tie.Need-cast-write-items-3
+cast-write-items-3 c = search needs
+
+add-write-items : tie.Need-add-write-items
+add-write-items c = search needs
+
+write-items-requires-3 : tie.Need-write-items-requires-3
+write-items-requires-3 c κs = search needs
+
+same-length : tie.Need-same-length
+same-length c = search needs
+
+returns : tie.Need-returns
+returns c =
+    let at = c .before .before .before .before .before in
+    let a = at .before .before .before .before .args in
+    let items = a .items .now in
+    leaves-same (inRoom (length (a .out .now)) (writeCounted (a .m) items)) (inRoom (length (a .out .now)) (writeCounted (C.Fixed (at .m .given .0 .0)) items)) (a .out .now) _ _
+    (ap (λ (m : Counted). inRoom (length (a .out .now)) (writeCounted m items)) (at .m .given .1))
+    (c .before .before .write-fixed .ensures .0) (c .before .before .write-fixed .ensures .1)
+
+same-length-2 : tie.Need-same-length-2
+same-length-2 c = search needs
+
+returns-2 : tie.Need-returns-2
+returns-2 c =
+    let at = c .before .before .before .before .before in
+    let a = at .before .before .before .before .args in
+    let items = a .items .now in
+    leaves-same (inRoom (length (a .out .now)) (writeCounted (a .m) items)) (inRoom (length (a .out .now)) (writeCounted (C.ZoneStatus (at .m2 .given .0 .0)) items)) (a .out .now) _ _
+    (ap (λ (m : Counted). inRoom (length (a .out .now)) (writeCounted m items)) (at .m2 .given .1))
+    (c .before .before .write-items .ensures .0) (c .before .before .write-items .ensures .1)
+
+same-length-3 : tie.Need-same-length-3
+same-length-3 c = search needs
+
+returns-3 : tie.Need-returns-3
+returns-3 c =
+    let at = c .before .before .before .before .before in
+    let a = at .before .before .before .before .args in
+    let items = a .items .now in
+    leaves-same (inRoom (length (a .out .now)) (writeCounted (a .m) items)) (inRoom (length (a .out .now)) (writeCounted (C.Events (at .m3 .given .0 .0)) items)) (a .out .now) _ _
+    (ap (λ (m : Counted). inRoom (length (a .out .now)) (writeCounted m items)) (at .m3 .given .1))
+    (c .before .before .write-items2 .ensures .0) (c .before .before .write-items2 .ensures .1)
+
+same-length-4 : tie.Need-same-length-4
+same-length-4 c = search needs
+
+returns-4 : tie.Need-returns-4
+returns-4 c =
+    let at = c .before .before .before .before .before in
+    let a = at .before .before .before .before .args in
+    let items = a .items .now in
+    leaves-same (inRoom (length (a .out .now)) (writeCounted (a .m) items)) (inRoom (length (a .out .now)) (writeCounted (C.MessageStatus (at .m4 .given .0 .0)) items)) (a .out .now) _ _
+    (ap (λ (m : Counted). inRoom (length (a .out .now)) (writeCounted m items)) (at .m4 .given .1))
+    (c .before .before .write-items3 .ensures .0) (c .before .before .write-items3 .ensures .1)
+
+pub write-spec : {M : Type 1} → statement M
+write-spec =
+    tie.close
+    (tie.spec
+    enum-known-m
+    write-fixed-requires
+    enum-known-m-2
+    cast-write-items
+    mul-write-items
+    write-items-requires
+    enum-known-m-3
+    cast-write-items-2
+    mul-write-items-2
+    write-items-requires-2
+    enum-known-m-4
+    cast-write-items-3
+    add-write-items
+    write-items-requires-3
+    same-length
+    returns
+    same-length-2
+    returns-2
+    same-length-3
+    returns-3
+    same-length-4
+    returns-4)

@@ -1,0 +1,77 @@
+-- Document 01, "Omni-Link messages": the items of types 16, 23 and 25.
+use Prim.Native.Nat.{ℕ, _+_, _*_, _/_, _%_}
+use mathlib.Core.Bool.{Bool, true, false, cond, _&&_}
+use mathlib.Core.List.{List, [], _∷_}
+use lib.Dec.{eqb, ltb}
+use Rattle.message.specs.declared.items.Condition.{Condition}
+use Rattle.message.specs.declared.items.Condition.the-variants as Condition
+use Rattle.message.specs.declared.items.LatchedAlarm.{LatchedAlarm}
+use Rattle.message.specs.declared.items.LatchedAlarm.the-variants as LatchedAlarm
+use Rattle.message.specs.declared.items.Arming.{Arming}
+use Rattle.message.specs.declared.items.Arming.the-variants as Arming
+use Rattle.message.specs.declared.items.Zone.{Zone}
+use Rattle.message.specs.declared.items.TextMessage.{TextMessage}
+
+-- status bits 0-1: secure, not ready, trouble
+abbrev pub conditionOf : ℕ → Condition
+conditionOf s = cond (eqb (s % 4) 0) Condition.Secure (cond (eqb (s % 4) 1) Condition.NotReady Condition.Trouble)
+
+-- bits 2-3: secure, tripped, reset
+abbrev pub latchedOf : ℕ → LatchedAlarm
+latchedOf s = cond (eqb (s / 4 % 4) 0) LatchedAlarm.Secure (cond (eqb (s / 4 % 4) 1) LatchedAlarm.Tripped LatchedAlarm.Reset)
+
+-- bits 4-5: disarmed, armed, bypassed by user, bypassed by system
+abbrev pub armingOf : ℕ → Arming
+armingOf s =
+    cond (eqb (s / 16 % 4) 0) Arming.Disarmed
+    (cond (eqb (s / 16 % 4) 1) Arming.Armed
+    (cond (eqb (s / 16 % 4) 2) Arming.BypassedByUser Arming.BypassedBySystem))
+
+-- a zone of a status byte and a loop reading; bit 6: unacknowledged trouble
+abbrev pub zoneOf : ℕ → ℕ → Zone
+zoneOf s reading =
+    record {
+      condition = conditionOf s;
+      «latched_alarm» = latchedOf s;
+      arming = armingOf s;
+      «unacknowledged_trouble» = eqb (s / 64 % 2) 1;
+      «loop_reading» = reading;
+    }
+
+-- the value 3 in either of the first two fields, or bit 7 set, is outside the list
+abbrev pub zoneListed : ℕ → Bool
+zoneListed s = cond (eqb (s % 4) 3) false (cond (eqb (s / 4 % 4) 3) false (ltb s 128))
+
+-- a text message of two bits: low bit displayed, high bit not acknowledged
+abbrev pub textOf : ℕ → TextMessage
+textOf bits = record { displayed = eqb (bits % 2) 1; «not_acknowledged» = eqb (bits / 2 % 2) 1 }
+
+-- what each pair of bytes stands for
+abbrev pub pairs : {A : Type 0} → (ℕ → ℕ → A) → List ℕ → List A
+pairs make [] = []
+pairs make (a ∷ []) = []
+pairs make (a ∷ b ∷ d) = make a b ∷ pairs make d
+
+-- pairs of status and loop reading
+abbrev pub zones : List ℕ → List Zone
+zones d = pairs zoneOf d
+
+abbrev pub zonesListed : List ℕ → Bool
+zonesListed [] = true
+zonesListed (s ∷ []) = true
+zonesListed (s ∷ r ∷ d) = cond (zoneListed s) (zonesListed d) false
+
+-- events, high byte first
+abbrev pub wordOf : ℕ → ℕ → ℕ
+wordOf hi lo = hi * 256 + lo
+
+abbrev pub words : List ℕ → List ℕ
+words d = pairs wordOf d
+
+-- four messages a byte, the lowest-numbered in the two high bits: the bits of message k of the four
+abbrev pub twoBits : ℕ → ℕ → ℕ
+twoBits b k = cond (eqb k 0) (b / 64) (cond (eqb k 1) (b / 16 % 4) (cond (eqb k 2) (b / 4 % 4) (b % 4)))
+
+abbrev pub texts : List ℕ → List TextMessage
+texts [] = []
+texts (b ∷ d) = textOf (twoBits b 0) ∷ textOf (twoBits b 1) ∷ textOf (twoBits b 2) ∷ textOf (twoBits b 3) ∷ texts d

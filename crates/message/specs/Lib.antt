@@ -1,0 +1,6 @@
+pub mod Command
+pub mod Item
+pub mod Items
+pub mod Log
+pub mod Message
+pub mod Typed

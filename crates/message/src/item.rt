@@ -1,0 +1,212 @@
+// Items of messages: of data bytes that carry a list, and of whole messages by their bytes.
+use crate::command::CommandRead;
+use crate::items;
+use crate::items::TextMessage;
+use crate::items::Zone;
+use crate::log::LogEntry;
+use crate::log::LogRead;
+use crate::message;
+use answer::Refusal;
+use link::frame::FrameRead;
+ghost use mathlib.Core.Path.{_≡_};
+ghost use lib.ListN.{drop};
+ghost use Rattle.answer.specs.Answer.{andThen};
+ghost use Rattle.message.specs.Command.{commandRead};
+ghost use Rattle.message.specs.Log.{readLog};
+ghost use Rattle.message.specs.Items.{zones, words, texts, twoBits};
+ghost use Rattle.message.specs.Item.{itemAt, zoneItem, eventItem, textItem, logField, logItem, commandItem, zoneRead, wordRead, textRead};
+ghost use Rattle.message.specs.Message.{readMessage};
+
+pub enum ZoneRead {
+    Accepted(Zone),
+    Refused(Refusal),
+}
+
+pub enum WordRead {
+    Accepted(u16),
+    Refused(Refusal),
+}
+
+pub enum TextRead {
+    Accepted(TextMessage),
+    Refused(Refusal),
+}
+
+// Zone i of data bytes that carry zones; past the last is 8.
+pub fn zone_at(data: &[u8], i: usize) -> ZoneRead
+    ensures { λ r. ⌜ zoneRead r ≡ itemAt (zones (now («data» .entry))) i ⌝ }
+{
+    if data.len() / 2 <= i {
+        return ZoneRead::Refused(Refusal::Field);
+    }
+    ZoneRead::Accepted(items::zone_of(data[2 * i], data[2 * i + 1]))
+}
+
+// Event i of data bytes that carry events; past the last is 8.
+pub fn event_at(data: &[u8], i: usize) -> WordRead
+    ensures { λ r. ⌜ wordRead r ≡ itemAt (words (now («data» .entry))) i ⌝ }
+{
+    if data.len() / 2 <= i {
+        return WordRead::Refused(Refusal::Field);
+    }
+    WordRead::Accepted(crate::command::word(data[2 * i], data[2 * i + 1]))
+}
+
+// The two bits of message k of the four in a byte, the lowest-numbered in the high bits.
+fn two_bits(b: u8, k: u8) -> u8
+    ensures { λ r. ⌜ r ≡ twoBits b k ⌝ }
+{
+    if k == 0 {
+        return b / 64;
+    }
+    if k == 1 {
+        return b / 16 % 4;
+    }
+    if k == 2 {
+        return b / 4 % 4;
+    }
+    b % 4
+}
+
+// Text message i of the data bytes of a message status; past the last is 8.
+pub fn text_at(data: &[u8], i: usize) -> TextRead
+    ensures { λ r. ⌜ textRead r ≡ itemAt (texts (drop 1 (now («data» .entry)))) i ⌝ }
+{
+    if data.len() == 0 {
+        return TextRead::Refused(Refusal::Field);
+    }
+    if data.len() - 1 <= i / 4 {
+        return TextRead::Refused(Refusal::Field);
+    }
+    let bits = two_bits(data[1 + i / 4], (i % 4) as u8);
+    TextRead::Accepted(items::text_of(bits))
+}
+
+// Field i of a log entry, in the paper's order, parameter 2 as one; past the last is 8.
+fn log_field(e: LogEntry, i: usize) -> WordRead
+    ensures { λ r. ⌜ wordRead r ≡ logField e i ⌝ }
+{
+    if i == 0 {
+        return WordRead::Accepted(e.number as u16);
+    }
+    if i == 1 {
+        return WordRead::Accepted(e.time_valid as u16);
+    }
+    if i == 2 {
+        return WordRead::Accepted(e.month as u16);
+    }
+    if i == 3 {
+        return WordRead::Accepted(e.day as u16);
+    }
+    if i == 4 {
+        return WordRead::Accepted(e.hour as u16);
+    }
+    if i == 5 {
+        return WordRead::Accepted(e.minute as u16);
+    }
+    if i == 6 {
+        return WordRead::Accepted(e.event_type as u16);
+    }
+    if i == 7 {
+        return WordRead::Accepted(e.parameter_1 as u16);
+    }
+    if i == 8 {
+        return WordRead::Accepted(e.parameter_2);
+    }
+    WordRead::Refused(Refusal::Field)
+}
+
+// Field i of the log entry that data bytes carry.
+fn log_field_at(data: &[u8], i: usize) -> WordRead
+    ensures { λ r. ⌜ wordRead r ≡ andThen (readLog (now («data» .entry))) (λ e. logField e i) ⌝ }
+{
+    match crate::log::read(data) {
+        LogRead::Accepted(e) => log_field(e, i),
+        LogRead::Refused(r) => WordRead::Refused(r),
+    }
+}
+
+// Zone i of a zone status.
+pub fn zone(bytes: &[u8], i: usize) -> ZoneRead
+    ensures { λ r. ⌜ zoneRead r ≡ andThen (readMessage (now (bytes .entry))) (zoneItem i) ⌝ }
+{
+    match message::kind_and_count(bytes) {
+        FrameRead::Accepted { kind, count } => {
+            if kind == 0x16 {
+                return zone_at(link::frame::data(bytes, count), i);
+            }
+            return ZoneRead::Refused(Refusal::Unknown);
+        }
+        FrameRead::Refused(r) => {
+            return ZoneRead::Refused(r);
+        }
+    }
+}
+
+// Event i of a list of events.
+pub fn event(bytes: &[u8], i: usize) -> WordRead
+    ensures { λ r. ⌜ wordRead r ≡ andThen (readMessage (now (bytes .entry))) (eventItem i) ⌝ }
+{
+    match message::kind_and_count(bytes) {
+        FrameRead::Accepted { kind, count } => {
+            if kind == 0x23 {
+                return event_at(link::frame::data(bytes, count), i);
+            }
+            return WordRead::Refused(Refusal::Unknown);
+        }
+        FrameRead::Refused(r) => {
+            return WordRead::Refused(r);
+        }
+    }
+}
+
+// Text message i of a message status.
+pub fn text_message(bytes: &[u8], i: usize) -> TextRead
+    ensures { λ r. ⌜ textRead r ≡ andThen (readMessage (now (bytes .entry))) (textItem i) ⌝ }
+{
+    match message::kind_and_count(bytes) {
+        FrameRead::Accepted { kind, count } => {
+            if kind == 0x25 {
+                return text_at(link::frame::data(bytes, count), i);
+            }
+            return TextRead::Refused(Refusal::Unknown);
+        }
+        FrameRead::Refused(r) => {
+            return TextRead::Refused(r);
+        }
+    }
+}
+
+// Field i of a log entry.
+pub fn log_entry(bytes: &[u8], i: usize) -> WordRead
+    ensures { λ r. ⌜ wordRead r ≡ andThen (readMessage (now (bytes .entry))) (logItem i) ⌝ }
+{
+    match message::kind_and_count(bytes) {
+        FrameRead::Accepted { kind, count } => {
+            if kind == 0x0E {
+                return log_field_at(link::frame::data(bytes, count), i);
+            }
+            return WordRead::Refused(Refusal::Unknown);
+        }
+        FrameRead::Refused(r) => {
+            return WordRead::Refused(r);
+        }
+    }
+}
+
+// The command of a command message.
+pub fn command(bytes: &[u8]) -> CommandRead
+    ensures { λ r. ⌜ commandRead r ≡ andThen (readMessage (now (bytes .entry))) commandItem ⌝ }
+{
+    match message::kind_and_count(bytes) {
+        FrameRead::Accepted { kind, count } => {
+            if kind == 0x0F {
+                return crate::command::read(link::frame::data(bytes, count));
+            }
+            return CommandRead::Refused(Refusal::Unknown);
+        }
+        FrameRead::Refused(r) => {
+            return CommandRead::Refused(r);
+        }
+    }
+}
