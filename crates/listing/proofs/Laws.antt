@@ -1,0 +1,4 @@
+pub mod Frames
+pub mod Numbers
+pub mod Output
+pub mod Pieces
