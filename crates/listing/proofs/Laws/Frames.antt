@@ -3,11 +3,12 @@ use mathlib.Core.Path.{_≡_, refl, sym, ap, ap₂, _∙_}
 use mathlib.Core.Bool.{Bool, true, false}
 use mathlib.Core.List.{List, [], _∷_, _++_}
 use Prim.Native.Nat.{ℕ, zero, suc, min, _+_, _-_, _<_, _≤_}
+use native.Mathlib.Nat.{add-zero}
 use native.Mathlib.Omega.{arith}
-use lib.ListN.{length, getD, take, drop, length-take}
-use lib.Seq.{getD-take, take-take, take-length}
-use Rattle.answer.specs.Answer.{Outcome, refused, accepted}
-use Rattle.link.specs.Frame.{Frame, readFrame}
+use lib.ListN.{length, getD, take, drop, length-take, length-drop}
+use lib.Seq.{getD-take, getD-drop, take-take, take-length}
+use Rattle.answer.specs.Answer.{Outcome, refused, accepted, onAccepted}
+use Rattle.link.specs.Frame.{Frame, header, readFrame}
 use Rattle.link.proofs.Laws.Whole.{Whole, whole, counted, few}
 use Rattle.listing.specs.Lines.{frameAt, size}
 use Rattle.listing.specs.Parts.{isAccepted, starts}
@@ -74,3 +75,25 @@ no-start s h = go (frameAt s) refl
     go : (o : Outcome Frame) → frameAt s ≡ o → isAccepted o ≡ false
     go (refused n) e = refl
     go (accepted f) e = absurd (h f e)
+
+-- at an offset of a longer string
+module _ (s : List ℕ) (at : ℕ) where
+  pub other-byte : (getD s at 0 ≡ 0x5A → ⊥) → starts (drop at s) ≡ false
+  other-byte h =
+      no-start (drop at s)
+      (λ f e. h (sym (getD-drop at s 0 0 ∙ ap (λ (n : ℕ). getD s n 0) (add-zero at)) ∙ starting (drop at s) f e .start))
+
+  pub too-few : length s - at < getD s (at + 1) 0 + 4 → starts (drop at s) ≡ false
+  too-few h =
+      no-start (drop at s)
+      (λ f e. omega (arith, starting (drop at s) f e .count, starting (drop at s) f e .inside, getD-drop at s 1 0, length-drop at s))
+
+  pub by-reading : (part : List ℕ) → part ≡ take (getD s (at + 1) 0 + 4) (drop at s) → isAccepted (onAccepted header (readFrame part)) ≡ starts (drop at s)
+  unfolding starts frameAt
+  by-reading part e =
+      as-flag (readFrame part)
+      ∙ ap (λ (p : List ℕ). isAccepted (readFrame p)) (e ∙ ap (λ (n : ℕ). take (n + 4) (drop at s)) (sym (getD-drop at s 1 0)))
+    where
+      as-flag : (o : Outcome Frame) → isAccepted (onAccepted header o) ≡ isAccepted o
+      as-flag (refused n) = refl
+      as-flag (accepted f) = refl

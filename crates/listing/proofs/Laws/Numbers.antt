@@ -9,6 +9,7 @@ use lib.ListN.{length, length-append}
 use borrow.Author.Tests.{lt-ltb, le-ltb, ltb-true, ltb-false}
 use Rattle.listing.specs.Lines.{noise, frame, end}
 use Rattle.listing.specs.Text.{digit, digits, number, lineText}
+use Rattle.listing.specs.Parts.{runText}
 
 -- more than enough digits are no other digits
 enough : (j k n : ℕ) → n < j → n < k → digits j n ≡ digits k n
@@ -82,3 +83,14 @@ module _ (offset count : ℕ) where
 pub end-length : (offset : ℕ) → length (lineText (end offset)) ≡ length (number offset) + 5
 unfolding lineText
 end-length offset = simp length-append (omega arith)
+
+-- a run's text: none where there is no noise
+pub no-run : (offset count : ℕ) → count ≡ 0 → runText offset count ≡ []
+unfolding runText
+no-run offset zero e = refl
+no-run offset (suc n) e = let z : ⊥ = omega arith in absurd z
+
+pub a-run : (offset count : ℕ) → (count ≡ 0 → ⊥) → runText offset count ≡ lineText (noise offset count)
+unfolding runText
+a-run offset zero h = absurd (h refl)
+a-run offset (suc n) h = refl

@@ -29,7 +29,7 @@ no-frame : (b : ℕ) (s : List ℕ) (offset run : ℕ) → starts (b ∷ s) ≡ 
 unfolding linesFrom
 no-frame b s offset run h =
     ap (λ (o : Outcome Frame). judged o (λ n. linesFrom (offset + 1) (run + 1) 0 s)
-        (λ f. afterNoise offset run (frame offset (size f) (f .kind) ∷ linesFrom (offset + 1) 0 (size f - 1) s)))
+    (λ f. afterNoise offset run (frame offset (size f) (f .kind) ∷ linesFrom (offset + 1) 0 (size f - 1) s)))
     (refused-starts (b ∷ s) h .1)
 
 pub a-frame : (s : List ℕ) (offset run : ℕ) (f : Frame) → frameAt s ≡ accepted f
@@ -41,7 +41,7 @@ a-frame (b ∷ s) offset run f e =
     let one : offset + 1 + (size f - 1) ≡ offset + size f = omega arith in
     let more : suc (size f - 1) ≡ size f = omega arith in
     ap (λ (o : Outcome Frame). judged o (λ n. linesFrom (offset + 1) (run + 1) 0 s)
-        (λ f. afterNoise offset run (frame offset (size f) (f .kind) ∷ linesFrom (offset + 1) 0 (size f - 1) s))) e
+    (λ f. afterNoise offset run (frame offset (size f) (f .kind) ∷ linesFrom (offset + 1) 0 (size f - 1) s))) e
     ∙ ap (λ (ls : List Line). afterNoise offset run (frame offset (size f) (f .kind) ∷ ls))
     (skip (size f - 1) (offset + 1) 0 s (omega (arith, w .inside))
     ∙ ap₂ (λ (n k : ℕ). linesFrom n 0 0 (drop k (b ∷ s))) one more)
@@ -54,6 +54,21 @@ noise-byte s offset run h e =
     ap (linesFrom offset run 0) cons
     ∙ no-frame (getD s offset 0) (drop (suc offset) s) offset run (ap starts (sym cons) ∙ e)
     ∙ ap (λ (n : ℕ). linesFrom (offset + 1) (run + 1) 0 (drop n s)) (sym (add-one offset))
+
+-- no noise yet, and a byte of noise more
+pub quiet-none : (s : List ℕ) (from : ℕ) → from ≤ length s → Quiet s from from
+quiet-none s from h =
+    let none : 0 ≡ from - from = omega arith in
+    record { forward = omega arith; within = h; same = ap (λ (n : ℕ). linesFrom from n 0 (drop from s)) none }
+
+pub quiet-more : (s : List ℕ) (from at : ℕ) → Quiet s from at → at < length s → starts (drop at s) ≡ false → Quiet s from (at + 1)
+quiet-more s from at q h e =
+    let more : at - from + 1 ≡ at + 1 - from = omega (arith, q .forward) in
+    record {
+      forward = omega (arith, q .forward);
+      within = omega arith;
+      same = q .same ∙ noise-byte s at (at - from) h e ∙ ap (λ (n : ℕ). linesFrom (at + 1) n 0 (drop (at + 1) s)) more;
+    }
 
 text-after : (offset run : ℕ) (ls : List Line) → text (afterNoise offset run ls) ≡ runText (offset - run) run ++ text ls
 unfolding afterNoise runText text
