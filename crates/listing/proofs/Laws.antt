@@ -1,4 +1,6 @@
+pub mod Answers
 pub mod Frames
 pub mod Numbers
 pub mod Output
 pub mod Pieces
+pub mod Sizes

@@ -8,6 +8,8 @@ use native.Mathlib.Numerals.{add-one}
 use native.Mathlib.Omega.{arith}
 use lib.ListN.{length, getD, take, drop, length-drop, drop-of-length-le}
 use lib.Seq.{drop-cons, drop-drop, getD-drop}
+use lib.Dec.{ltb}
+use borrow.Author.Tests.{ltb-true, ltb-false}
 use Rattle.answer.specs.Answer.{Outcome, refused, accepted}
 use Rattle.link.specs.Frame.{Frame}
 use Rattle.listing.specs.Lines.{Line, noise, frame, end, linesFrom, frameAt, size, afterNoise, judged}
@@ -96,6 +98,16 @@ module _ (s : List ℕ) (from to : ℕ) (q : Quiet s from to) where
       ap text (q .same ∙ a-frame (drop to s) to (to - from) f e)
       ∙ text-after to (to - from) _
       ∙ ap₂ (λ (n : ℕ) (ls : List Line). runText n (to - from) ++ text ls) back (sym (a-frame (drop to s) to 0 f e))
+
+  -- noise, and something after it
+  pub noise-first : (to < length s → starts (drop to s) ≡ true) → (later : List ℕ) × (rest s from ≡ runText from (to - from) ++ later)
+  noise-first found = go (ltb to (length s)) refl
+    where
+      go : (t : Bool) → ltb to (length s) ≡ t → (later : List ℕ) × (rest s from ≡ runText from (to - from) ++ later)
+      go true e = (rest s to, noise-then-frame (found (ltb-true to (length s) e)))
+      go false e =
+          let at-end : to ≡ length s = omega (arith, q .within, ltb-false to (length s) e) in
+          (lineText (end to), noise-then-end at-end)
 
 module _ (s : List ℕ) (at : ℕ) (h : starts (drop at s) ≡ true) where
   abbrev here : Frame
