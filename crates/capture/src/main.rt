@@ -1,5 +1,6 @@
 // Prints the listing of standard input, or only `refused 3`.
 use answer::Written;
+
 fn main() {
     let mut capture = [0u8; 4097];
     let n = io::read_full(0, &mut capture);

@@ -1,5 +1,5 @@
 -- What the functions behind the listing promise one another.
-use Prim.Native.Nat.{ℕ, zero, suc, _+_, _-_, _≤_}
+use Prim.Native.Nat.{ℕ, zero, suc, _+_, _-_, _<_, _≤_}
 use mathlib.Core.Path.{_≡_}
 use mathlib.Core.Bool.{Bool, true, false}
 use mathlib.Core.List.{List, [], _++_}
@@ -40,3 +40,11 @@ pub record Quiet (s : List ℕ) (from to : ℕ) : Type 0 where
   pub forward : from ≤ to
   pub within : to ≤ length s
   pub same : linesFrom from 0 0 (drop from s) ≡ linesFrom to (to - from) 0 (drop to s)
+
+-- the listing from one offset up to another was put from a place on
+pub record Wrote (s : List ℕ) (from place : ℕ) (before after : List ℕ) (at next : ℕ) : Type 0 where
+  pub written : List ℕ
+  pub put : Put place written before after next
+  pub same : rest s from ≡ written ++ rest s at
+  pub forward : from < at
+  pub within : at ≤ length s

@@ -25,6 +25,6 @@ pub fn write(bytes: &[u8], out: &mut [u8]) -> Written
     if out.len() < size {
         return Written::Refused(Refusal::Room);
     }
-    scan::noise(bytes, 0, out, 0);
+    scan::put_listing(bytes, out);
     Written::Count(size as u32)
 }

@@ -1,20 +1,23 @@
 // The capture from the left: runs of noise, frames, the end.
-use link::frame::FrameRead;
 use crate::text::end_size;
 use crate::text::frame_size;
 use crate::text::put_end;
 use crate::text::put_frame;
 use crate::text::put_run;
 use crate::text::run_size;
+use link::frame::FrameRead;
 ghost use mathlib.Core.Path.{_≡_};
 ghost use mathlib.Core.Bool.{true};
 ghost use Prim.Native.Nat.{_+_, _<_, _≤_};
 ghost use lib.ListN.{length, drop};
 ghost use Rattle.answer.specs.Answer.{onAccepted};
 ghost use Rattle.link.specs.Frame.{outcomeOf};
-ghost use Rattle.listing.specs.Parts.{Put, Quiet, starts, rest, isAccepted};
+ghost use Rattle.listing.specs.Parts.{Put, Quiet, Wrote, starts, rest, isAccepted};
 
 const START: u8 = 0x5A;
+
+// A stretch of the capture, in bytes: what one chain of calls goes through, so that the stack stays small.
+const STRETCH: usize = 512;
 
 fn is_frame(r: FrameRead) -> bool
     ensures { λ b. ⌜ b ≡ isAccepted (outcomeOf r) ⌝ }
@@ -80,31 +83,71 @@ pub(crate) fn text_size(bytes: &[u8]) -> usize
     }
 }
 
-// Writes the listing from an offset on, where no noise byte stands just before: a run of noise, and then hands over to the frame
-// behind it, or ends. The text is known to fit.
-pub(crate) fn noise(bytes: &[u8], from: usize, out: &mut [u8], place: usize) -> usize
+// How far a stretch of the listing got: the offset behind its last frame or the end, and the place in the output.
+struct Reached {
+    at: usize,
+    place: usize,
+}
+
+// Writes a run of noise, and hands over to the frame behind it; at the end there is none. The text is known to fit.
+fn noise(bytes: &[u8], from: usize, out: &mut [u8], place: usize, limit: usize) -> Reached
     requires { ⌜ length (now bytes) ≤ 4096 ⌝ }
-    requires { ⌜ from ≤ length (now bytes) ⌝ }
+    requires { ⌜ from < length (now bytes) ⌝ }
+    requires { ⌜ limit ≤ length (now bytes) ⌝ }
     requires { ⌜ place + length (rest (now bytes) from) ≤ length (now out) ⌝ }
-    ensures { λ r. ⌜ Put place (rest (now (bytes .entry)) from) (now (out .entry)) (now (out .exit)) r ⌝ }
+    ensures { λ r. ⌜ Wrote (now (bytes .entry)) from place (now (out .entry)) (now (out .exit)) (r .at) (r .place) ⌝ }
 {
     let at = next_frame(bytes, from);
     let next = put_run(from, at - from, out, place);
     if at == bytes.len() {
-        return put_end(at, out, next);
+        return Reached { at, place: next };
     }
-    frame(bytes, at, out, next)
+    frame(bytes, at, out, next, limit)
 }
 
-// Writes the listing from a frame on: its line, and then hands back to the noise behind it.
-fn frame(bytes: &[u8], at: usize, out: &mut [u8], place: usize) -> usize
+// Writes a frame's line, and hands back to the noise behind it; at the limit, where the stretch ends, there is none.
+fn frame(bytes: &[u8], at: usize, out: &mut [u8], place: usize, limit: usize) -> Reached
     requires { ⌜ length (now bytes) ≤ 4096 ⌝ }
-    requires { ⌜ at < length (now bytes) ⌝ }
     requires { ⌜ starts (drop at (now bytes)) ≡ true ⌝ }
+    requires { ⌜ limit ≤ length (now bytes) ⌝ }
     requires { ⌜ place + length (rest (now bytes) at) ≤ length (now out) ⌝ }
-    ensures { λ r. ⌜ Put place (rest (now (bytes .entry)) at) (now (out .entry)) (now (out .exit)) r ⌝ }
+    ensures { λ r. ⌜ Wrote (now (bytes .entry)) at place (now (out .entry)) (now (out .exit)) (r .at) (r .place) ⌝ }
 {
     let count = bytes[at + 1] as usize + 4;
     let next = put_frame(at, count, bytes[at + 2] as usize, out, place);
-    noise(bytes, at + count, out, next)
+    let from = at + count;
+    if limit <= from {
+        return Reached {
+            at: from,
+            place: next,
+        };
+    }
+    noise(bytes, from, out, next, limit)
+}
+
+// Where the stretch from an offset ends at the latest.
+fn stretch_end(at: usize, len: usize) -> usize
+    requires { ⌜ at ≤ len ⌝ }
+    ensures { λ r. ⌜ r ≤ len ⌝ }
+{
+    if len - at < STRETCH {
+        return len;
+    }
+    at + STRETCH
+}
+
+// Writes the listing stretch by stretch, and the end. The text is known to fit.
+pub(crate) fn put_listing(bytes: &[u8], out: &mut [u8]) -> usize
+    requires { ⌜ length (now bytes) ≤ 4096 ⌝ }
+    requires { ⌜ length (rest (now bytes) 0) ≤ length (now out) ⌝ }
+    ensures { λ r. ⌜ Put 0 (rest (now (bytes .entry)) 0) (now (out .entry)) (now (out .exit)) r ⌝ }
+{
+    let mut at = 0;
+    let mut place = 0;
+    while at < bytes.len() {
+        let reached = noise(bytes, at, out, place, stretch_end(at, bytes.len()));
+        at = reached.at;
+        place = reached.place;
+    }
+    put_end(at, out, place)
 }

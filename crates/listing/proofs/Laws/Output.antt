@@ -68,10 +68,13 @@ module _ (at : ℕ) (xs old : List ℕ) (h : at + length xs ≤ length old) wher
       ap₂ (λ (x y : List ℕ). x ++ ys ++ y) (take-at p behind (at + length xs) front) past
       ∙ ap (λ (x : List ℕ). x ++ drop (at + length (xs ++ ys)) old) (append-assoc (take at old) xs ys)
 
+pub put-length : {at n : ℕ} {xs o o′ : List ℕ} → Put at xs o o′ n → length o′ ≡ length o
+put-length {at} {n} {xs} {o} p = ap length (p .put) ∙ placed-length at xs o (p .fits)
+
 -- one part, and another behind it
 pub joined : {at n₁ n₂ : ℕ} {xs ys o₀ o₁ o₂ : List ℕ} → Put at xs o₀ o₁ n₁ → Put n₁ ys o₁ o₂ n₂ → Put at (xs ++ ys) o₀ o₂ n₂
 joined {at} {n₁} {n₂} {xs} {ys} {o₀} {o₁} {o₂} p q =
-    let long : length o₁ ≡ length o₀ = ap length (p .put) ∙ placed-length at xs o₀ (p .fits) in
+    let long : length o₁ ≡ length o₀ = put-length p in
     let e : length (xs ++ ys) ≡ length xs + length ys = length-append xs ys in
     record {
       fits = omega (arith, p .moved, q .fits);
@@ -85,7 +88,7 @@ first-fits at n xs ys h = omega (arith, length-append xs ys)
 
 pub next-fits : {at n : ℕ} {xs o o′ : List ℕ} (ys : List ℕ) → Put at xs o o′ n → at + length (xs ++ ys) ≤ length o → n + length ys ≤ length o′
 next-fits {at} {n} {xs} {o} {o′} ys p h =
-    let long : length o′ ≡ length o = ap length (p .put) ∙ placed-length at xs o (p .fits) in
+    let long : length o′ ≡ length o = put-length p in
     omega (arith, p .moved, length-append xs ys)
 
 -- the same bytes

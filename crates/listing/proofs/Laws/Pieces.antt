@@ -1,9 +1,9 @@
 -- The listing piece by piece: a noise byte, a run of noise, a frame, the end. Assumes nothing.
 use mathlib.Core.Path.{_≡_, refl, sym, ap, ap₂, _∙_}
 use mathlib.Core.Bool.{Bool, true, false}
-use mathlib.Core.List.{List, [], _∷_, _++_, append-nil}
+use mathlib.Core.List.{List, [], _∷_, _++_, append-nil, append-assoc}
 use Prim.Native.Nat.{ℕ, zero, suc, _+_, _-_, _<_, _≤_}
-use native.Mathlib.Nat.{add-zero}
+use native.Mathlib.Nat.{add-zero, le-antisymm}
 use native.Mathlib.Numerals.{add-one}
 use native.Mathlib.Omega.{arith}
 use lib.ListN.{length, getD, take, drop, length-drop, drop-of-length-le}
@@ -14,8 +14,9 @@ use Rattle.answer.specs.Answer.{Outcome, refused, accepted}
 use Rattle.link.specs.Frame.{Frame}
 use Rattle.listing.specs.Lines.{Line, noise, frame, end, linesFrom, frameAt, size, afterNoise, judged}
 use Rattle.listing.specs.Text.{lineText, text}
-use Rattle.listing.specs.Parts.{starts, runText, rest, Quiet}
+use Rattle.listing.specs.Parts.{starts, runText, rest, Quiet, Put, Wrote}
 use Rattle.listing.proofs.Laws.Frames.{Starting, starting, accepted-starts, refused-starts}
+use Rattle.listing.proofs.Laws.Output.{joined, nothing, next-fits, same-bytes}
 
 -- the bytes of a frame already taken are passed over
 skip : (k offset run : ℕ) (s : List ℕ) → k ≤ length s → linesFrom offset run k s ≡ linesFrom (offset + k) run 0 (drop k s)
@@ -81,33 +82,36 @@ module _ (s : List ℕ) (from to : ℕ) (q : Quiet s from to) where
   back : to - (to - from) ≡ from
   back = omega (arith, q .forward)
 
-  -- noise up to the end
-  pub noise-then-end : to ≡ length s → rest s from ≡ runText from (to - from) ++ lineText (end to)
-  unfolding rest linesFrom text
-  noise-then-end e =
-      ap text (q .same ∙ ap (linesFrom to (to - from) 0) (drop-of-length-le s {i = to} (omega arith)))
+  up-to-end : to ≡ length s → rest s from ≡ runText from (to - from) ++ rest s to
+  unfolding rest linesFrom afterNoise
+  up-to-end e =
+      let none : drop to s ≡ [] = drop-of-length-le s {i = to} (omega arith) in
+      ap text (q .same ∙ ap (linesFrom to (to - from) 0) none)
       ∙ text-after to (to - from) (end to ∷ [])
-      ∙ ap₂ (λ (n : ℕ) (x : List ℕ). runText n (to - from) ++ x) back (append-nil (lineText (end to)))
+      ∙ ap₂ (λ (n : ℕ) (x : List ℕ). runText n (to - from) ++ text (linesFrom to 0 0 x)) back (sym none)
 
-  -- noise up to a frame
-  pub noise-then-frame : starts (drop to s) ≡ true → rest s from ≡ runText from (to - from) ++ rest s to
+  up-to-frame : starts (drop to s) ≡ true → rest s from ≡ runText from (to - from) ++ rest s to
   unfolding rest afterNoise
-  noise-then-frame h =
+  up-to-frame h =
       let f = accepted-starts (drop to s) h .0 in
       let e = accepted-starts (drop to s) h .1 in
       ap text (q .same ∙ a-frame (drop to s) to (to - from) f e)
       ∙ text-after to (to - from) _
       ∙ ap₂ (λ (n : ℕ) (ls : List Line). runText n (to - from) ++ text ls) back (sym (a-frame (drop to s) to 0 f e))
 
-  -- noise, and something after it
-  pub noise-first : (to < length s → starts (drop to s) ≡ true) → (later : List ℕ) × (rest s from ≡ runText from (to - from) ++ later)
-  noise-first found = go (ltb to (length s)) refl
+  -- noise up to a frame or the end
+  pub noise-then : (to < length s → starts (drop to s) ≡ true) → rest s from ≡ runText from (to - from) ++ rest s to
+  noise-then found = go (ltb to (length s)) refl
     where
-      go : (t : Bool) → ltb to (length s) ≡ t → (later : List ℕ) × (rest s from ≡ runText from (to - from) ++ later)
-      go true e = (rest s to, noise-then-frame (found (ltb-true to (length s) e)))
-      go false e =
-          let at-end : to ≡ length s = omega (arith, q .within, ltb-false to (length s) e) in
-          (lineText (end to), noise-then-end at-end)
+      go : (t : Bool) → ltb to (length s) ≡ t → rest s from ≡ runText from (to - from) ++ rest s to
+      go true e = up-to-frame (found (ltb-true to (length s) e))
+      go false e = up-to-end (le-antisymm (q .within) (ltb-false to (length s) e))
+
+-- at the end there is only its line
+pub rest-at-end : (s : List ℕ) (at : ℕ) → length s ≤ at → rest s at ≡ lineText (end at)
+unfolding rest linesFrom afterNoise text
+rest-at-end s at h =
+    ap (λ (x : List ℕ). text (linesFrom at 0 0 x)) (drop-of-length-le s {i = at} h) ∙ append-nil (lineText (end at))
 
 module _ (s : List ℕ) (at : ℕ) (h : starts (drop at s) ≡ true) where
   abbrev here : Frame
@@ -132,3 +136,48 @@ module _ (s : List ℕ) (at : ℕ) (h : starts (drop at s) ≡ true) where
       ap text (a-frame (drop at s) at 0 here (accepted-starts (drop at s) h .1)
       ∙ ap (λ (x : List ℕ). frame at (size here) (here .kind) ∷ linesFrom (at + size here) 0 0 x) (drop-drop (size here) at s))
       ∙ ap₂ (λ (n k : ℕ). lineText (frame at n k) ++ text (linesFrom (at + n) 0 0 (drop (at + n) s))) count-byte kind-byte
+
+-- a part of the listing put, and the next one behind it
+pub wrote-part : {s : List ℕ} {from place : ℕ} {before after : List ℕ} {at next : ℕ} (xs : List ℕ) → Put place xs before after next
+    → rest s from ≡ xs ++ rest s at → from < at → at ≤ length s → Wrote s from place before after at next
+wrote-part xs put same forward within = record { written = xs; put = put; same = same; forward = forward; within = within }
+
+pub wrote-next : {s : List ℕ} {from mid at place n₁ n₂ : ℕ} {o₀ o₁ o₂ : List ℕ} (xs : List ℕ) → Put place xs o₀ o₁ n₁
+    → rest s from ≡ xs ++ rest s mid → from ≤ mid → Wrote s mid n₁ o₁ o₂ at n₂ → Wrote s from place o₀ o₂ at n₂
+wrote-next {s} {from} {mid} {at} xs put same forward w =
+    record {
+      written = xs ++ w .written;
+      put = joined put (w .put);
+      same = same ∙ ap (λ (x : List ℕ). xs ++ x) (w .same) ∙ sym (append-assoc xs (w .written) (rest s at));
+      forward = omega (arith, w .forward);
+      within = w .within;
+    }
+
+-- the listing up to an offset, put from the start of the output on
+pub record Begun (s before after : List ℕ) (at place : ℕ) : Type 0 where
+  pub written : List ℕ
+  pub put : Put 0 written before after place
+  pub same : rest s 0 ≡ written ++ rest s at
+  pub within : at ≤ length s
+
+module _ {s o₀ : List ℕ} where
+  pub begun-none : Begun s o₀ o₀ 0 0
+  begun-none = record { written = []; put = nothing o₀ 0 (omega arith); same = refl; within = omega arith }
+
+  module _ {o₁ : List ℕ} {at place : ℕ} (b : Begun s o₀ o₁ at place) where
+    pub begun-more : {o₂ : List ℕ} {to next : ℕ} → Wrote s at place o₁ o₂ to next → Begun s o₀ o₂ to next
+    begun-more {to = to} w = record {
+      written = b .written ++ w .written;
+      put = joined (b .put) (w .put);
+      same = b .same ∙ ap (λ (x : List ℕ). b .written ++ x) (w .same) ∙ sym (append-assoc (b .written) (w .written) (rest s to));
+      within = w .within;
+    }
+
+    pub begun-room : length (rest s 0) ≤ length o₀ → place + length (rest s at) ≤ length o₁
+    begun-room h =
+        let all : length (rest s 0) ≡ length (b .written ++ rest s at) = ap length (b .same) in
+        next-fits (rest s at) (b .put) (omega arith)
+
+    pub begun-ended : {o₂ : List ℕ} {next : ℕ} → length s ≤ at → Put place (lineText (end at)) o₁ o₂ next → Put 0 (rest s 0) o₀ o₂ next
+    begun-ended h p =
+        same-bytes (sym (b .same ∙ ap (λ (x : List ℕ). b .written ++ x) (rest-at-end s at h))) (joined (b .put) p)

@@ -12,7 +12,7 @@ use Rattle.listing.specs.Text.{number, lineText, text}
 use Rattle.listing.specs.Parts.{starts, runText, rest, Quiet}
 use Rattle.listing.proofs.Laws.Frames.{Starting, starting}
 use Rattle.listing.proofs.Laws.Numbers.{at-most-four, noise-length, frame-length, end-length}
-use Rattle.listing.proofs.Laws.Pieces.{noise-then-end, noise-then-frame, frame-then}
+use Rattle.listing.proofs.Laws.Pieces.{noise-then, frame-then, rest-at-end}
 
 -- a run's line is at most 16 bytes long
 pub run-bound : (offset count : ℕ) → offset < 10000 → count < 10000 → length (runText offset count) ≤ 16
@@ -69,8 +69,8 @@ bound-from offset run zero (b ∷ s) small r o t =
         → length (text (linesFrom (offset + 1) (run + 1) 0 s)) ≤ 8 * (length s - 0) + 25
         → ((k : ℕ) → k ≤ length s → length (text (linesFrom (offset + 1) 0 k s)) ≤ 8 * (length s - k) + 25)
         → length (text (judged o
-            (λ n. linesFrom (offset + 1) (run + 1) 0 s)
-            (λ f. afterNoise offset run (frame offset (size f) (f .kind) ∷ linesFrom (offset + 1) 0 (size f - 1) s))))
+        (λ n. linesFrom (offset + 1) (run + 1) 0 s)
+        (λ f. afterNoise offset run (frame offset (size f) (f .kind) ∷ linesFrom (offset + 1) 0 (size f - 1) s))))
         ≤ 8 * (suc (length s) - 0) + 25
     go (refused n) e as-noise as-frame = omega arith
     go (accepted f) e as-noise as-frame =
@@ -92,19 +92,16 @@ unfolding rest
 enough-room s small h = omega (arith, bound-from 0 0 0 s small (omega arith) (omega arith) (omega arith))
 
 -- the sizes of the listing's pieces add up
-module _ (s : List ℕ) (from to : ℕ) (q : Quiet s from to) where
-  pub size-to-end : to ≡ length s → length (rest s from) ≡ length (runText from (to - from)) + length (lineText (end to))
-  size-to-end e = ap length (noise-then-end s from to q e) ∙ length-append (runText from (to - from)) (lineText (end to))
+module _ (s : List ℕ) (from to : ℕ) (q : Quiet s from to) (found : to < length s → starts (drop to s) ≡ true) where
+  pub size-of-noise : length (rest s from) ≡ length (runText from (to - from)) + length (rest s to)
+  size-of-noise = ap length (noise-then s from to q found) ∙ length-append (runText from (to - from)) (rest s to)
 
-  pub size-to-frame : starts (drop to s) ≡ true
-      → length (rest s from)
-      ≡ length (runText from (to - from))
-      + length (lineText (frame to (getD s (to + 1) 0 + 4) (getD s (to + 2) 0)))
-      + length (rest s (to + (getD s (to + 1) 0 + 4)))
-  size-to-frame h =
-      let run = runText from (to - from) in
-      let line = lineText (frame to (getD s (to + 1) 0 + 4) (getD s (to + 2) 0)) in
-      let later = rest s (to + (getD s (to + 1) 0 + 4)) in
-      let all : rest s from ≡ run ++ (line ++ later) =
-      noise-then-frame s from to q h ∙ ap (λ (x : List ℕ). run ++ x) (frame-then s to h) in
-      omega (arith, ap length all, length-append run (line ++ later), length-append line later)
+pub size-of-frame : (s : List ℕ) (at : ℕ) → starts (drop at s) ≡ true
+    → length (rest s at)
+    ≡ length (lineText (frame at (getD s (at + 1) 0 + 4) (getD s (at + 2) 0))) + length (rest s (at + (getD s (at + 1) 0 + 4)))
+size-of-frame s at h =
+    ap length (frame-then s at h)
+    ∙ length-append (lineText (frame at (getD s (at + 1) 0 + 4) (getD s (at + 2) 0))) (rest s (at + (getD s (at + 1) 0 + 4)))
+
+pub size-of-end : (s : List ℕ) (at : ℕ) → length s ≤ at → length (rest s at) ≡ length (lineText (end at))
+size-of-end s at h = ap length (rest-at-end s at h)

@@ -15,7 +15,7 @@ use Rattle.listing.proofs.write.Statement.{statement}
 use Rattle.listing.proofs.write.Tie as tie
 use Rattle.listing.proofs.write.Reads as reads
 use Rattle.listing.proofs.write.Lts as lts
-use Rattle.listing.proofs.scan.noise.Reads as noise-reads
+use Rattle.listing.proofs.scan.put_listing.Reads as put-listing-reads
 use Rattle.listing.proofs.scan.text_size.Reads as text-size-reads
 
 -- src/lib.rt:22:9
@@ -39,8 +39,8 @@ returns-2 c =
     (sym (ap (onAccepted length) o), sym (ap (λ (x : Outcome (List ℕ)). outAfter x (now (a .out))) o))
 
 -- src/lib.rt:28:5
-noise-requires : tie.Need-noise-requires
-noise-requires c κs = search needs
+put-listing-requires : tie.Need-put-listing-requires
+put-listing-requires c κs = search needs
 
 -- src/lib.rt:29:20
 cast-t10 : tie.Need-cast-t10
@@ -63,10 +63,17 @@ returns-3 c =
     let o : inRoom (length (now (a .out))) (listing s) ≡ accepted (rest s 0) =
     fits s (length (now (a .out))) (c .before .before .before .before .before .before .if1 .left) (omega (arith, c .before .before .before .before .if2 .left)) in (
       ap accepted size ∙ sym (ap (onAccepted length) o),
-      from-start (c .before .before .noise .ensures) ∙ sym (ap (λ (x : Outcome (List ℕ)). outAfter x (now (a .out))) o),
+      from-start (c .before .before .put-listing .ensures) ∙ sym (ap (λ (x : Outcome (List ℕ)). outAfter x (now (a .out))) o),
     )
 
 pub write-spec : {M : Type 1} → statement M
 write-spec =
     tie.close
-    (tie.spec returns text-size-requires returns-2 noise-requires cast-t10 same-length returns-3)
+    (tie.spec
+    returns
+    text-size-requires
+    returns-2
+    put-listing-requires
+    cast-t10
+    same-length
+    returns-3)

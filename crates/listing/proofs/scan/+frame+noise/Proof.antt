@@ -5,8 +5,8 @@ use native.Mathlib.Omega.{arith}
 use Rattle.listing.specs.Lines.{frame as frameLine, end}
 use Rattle.listing.specs.Text.{lineText}
 use Rattle.listing.specs.Parts.{rest, runText}
-use Rattle.listing.proofs.Laws.Output.{first-fits, next-fits, joined, same-bytes}
-use Rattle.listing.proofs.Laws.Pieces.{noise-first, noise-then-end, noise-then-frame, frame-then, whole-inside}
+use Rattle.listing.proofs.Laws.Output.{first-fits, next-fits}
+use Rattle.listing.proofs.Laws.Pieces.{noise-then, frame-then, whole-inside, wrote-part, wrote-next}
 use Prim.Native.Nat.{ℕ, _<_}
 use borrow.Fn.Kinds.{In}
 use borrow.Fn.PlainCycle.{Measures, is, falls, and}
@@ -17,7 +17,6 @@ use Rattle.listing.proofs.scan.noise.Reads as noise
 use Rattle.listing.proofs.scan.noise.Kinds as noise-kinds
 use Rattle.listing.proofs.scan.+frame+noise.Lts-noise as noise-lts
 use Rattle.listing.proofs.scan.next_frame.Reads as next-frame-reads
-use Rattle.listing.proofs.text.put_end.Reads as put-end-reads
 use Rattle.listing.proofs.text.put_frame.Reads as put-frame-reads
 use Rattle.listing.proofs.text.put_run.Reads as put-run-reads
 use Rattle.listing.proofs.scan.+frame+noise.{statement}
@@ -41,7 +40,7 @@ noise-at t = and 2 noise-kinds.ps (is 2 noise-kinds.ps μ-noise t) noise.Pre
 abbrev noise-below : ℕ → In 2 noise-kinds.ps
 noise-below t = and 2 noise-kinds.ps (falls 2 noise-kinds.ps _<_ μ-noise t) noise.Pre
 
--- src/scan.rt:107:23
+-- src/scan.rt:116:23
 frame-add-count : (t : ℕ) → frame-lts.Need-add-count (
   put-frame-reads.Asked,
   put-frame-reads.Learnt,
@@ -52,11 +51,11 @@ frame-add-count t c =
     let a = c .before .before .args in
     let s = a .bytes .now in
     let pre = c .before .before .pre .1 in
-    let h = pre .1 .1 .0 in
+    let h = pre .1 .0 in
     let whole = whole-inside s (a .at) h in
     omega (arith, whole, pre .0)
 
--- src/scan.rt:107:17
+-- src/scan.rt:116:17
 frame-shared-slice-read-count : (t : ℕ) → frame-lts.Need-shared-slice-read-count (
   put-frame-reads.Asked,
   put-frame-reads.Learnt,
@@ -67,11 +66,11 @@ frame-shared-slice-read-count t c =
     let a = c .before .before .before .args in
     let s = a .bytes .now in
     let pre = c .before .before .before .pre .1 in
-    let h = pre .1 .1 .0 in
+    let h = pre .1 .0 in
     let whole = whole-inside s (a .at) h in
     omega (arith, whole)
 
--- src/scan.rt:107:17
+-- src/scan.rt:116:17
 frame-cast-count : (t : ℕ) → frame-lts.Need-cast-count (
   put-frame-reads.Asked,
   put-frame-reads.Learnt,
@@ -82,11 +81,11 @@ frame-cast-count t c =
     let a = c .before .before .before .args in
     let s = a .bytes .now in
     let pre = c .before .before .before .pre .1 in
-    let h = pre .1 .1 .0 in
+    let h = pre .1 .0 in
     let whole = whole-inside s (a .at) h in
     omega (arith, c .shared-slice-known2 .given (a .at + 1))
 
--- src/scan.rt:107:17
+-- src/scan.rt:116:17
 frame-add-count-2 : (t : ℕ) → frame-lts.Need-add-count-2 (
   put-frame-reads.Asked,
   put-frame-reads.Learnt,
@@ -97,11 +96,11 @@ frame-add-count-2 t c =
     let a = c .before .before .before .args in
     let s = a .bytes .now in
     let pre = c .before .before .before .pre .1 in
-    let h = pre .1 .1 .0 in
+    let h = pre .1 .0 in
     let whole = whole-inside s (a .at) h in
     omega (arith, c .shared-slice-known2 .given (a .at + 1))
 
--- src/scan.rt:108:43
+-- src/scan.rt:117:43
 frame-add-put-frame : (t : ℕ) → frame-lts.Need-add-put-frame (
   put-frame-reads.Asked,
   put-frame-reads.Learnt,
@@ -112,11 +111,11 @@ frame-add-put-frame t c =
     let a = c .before .before .before .args in
     let s = a .bytes .now in
     let pre = c .before .before .before .pre .1 in
-    let h = pre .1 .1 .0 in
+    let h = pre .1 .0 in
     let whole = whole-inside s (a .at) h in
     omega (arith, whole, pre .0)
 
--- src/scan.rt:108:37
+-- src/scan.rt:117:37
 frame-shared-slice-read-put-frame : (t : ℕ) → frame-lts.Need-shared-slice-read-put-frame (
   put-frame-reads.Asked,
   put-frame-reads.Learnt,
@@ -127,11 +126,11 @@ frame-shared-slice-read-put-frame t c =
     let a = c .before .before .before .before .args in
     let s = a .bytes .now in
     let pre = c .before .before .before .before .pre .1 in
-    let h = pre .1 .1 .0 in
+    let h = pre .1 .0 in
     let whole = whole-inside s (a .at) h in
     omega (arith, whole)
 
--- src/scan.rt:108:37
+-- src/scan.rt:117:37
 frame-cast-put-frame : (t : ℕ) → frame-lts.Need-cast-put-frame (
   put-frame-reads.Asked,
   put-frame-reads.Learnt,
@@ -142,11 +141,11 @@ frame-cast-put-frame t c =
     let a = c .before .before .before .before .args in
     let s = a .bytes .now in
     let pre = c .before .before .before .before .pre .1 in
-    let h = pre .1 .1 .0 in
+    let h = pre .1 .0 in
     let whole = whole-inside s (a .at) h in
     omega (arith, c .shared-slice-known3 .given (a .at + 2))
 
--- src/scan.rt:108:9
+-- src/scan.rt:117:9
 frame-put-frame-requires : (t : ℕ) → frame-lts.Need-put-frame-requires (
   put-frame-reads.Asked,
   put-frame-reads.Learnt,
@@ -157,56 +156,44 @@ frame-put-frame-requires t c κs =
     let a = c .before .before .before .before .before .args in
     let s = a .bytes .now in
     let pre = c .before .before .before .before .before .pre .1 in
-    let h = pre .1 .1 .0 in
+    let h = pre .1 .0 in
     let whole = whole-inside s (a .at) h in
-    let room = rw (frame-then s (a .at) h) at (pre .1 .1 .1) in
-    (omega (arith, whole, pre .0),
-    (omega (arith, c .before .shared-slice-known3 .given (a .at + 1)),
-    (omega (arith, c .before .shared-slice-known3 .given (a .at + 2)),
-    first-fits _ _ (lineText (frameLine (a .at) (getD s (a .at + 1) 0 + 4) (getD s (a .at + 2) 0))) (rest s (a .at + (getD s (a .at + 1) 0 + 4))) room)))
+    let room = rw (frame-then s (a .at) h) at (pre .1 .1 .1) in (
+      omega (arith, whole, pre .0),
+      (
+        omega (arith, c .before .shared-slice-known3 .given (a .at + 1)),
+        (
+          omega (arith, c .before .shared-slice-known3 .given (a .at + 2)),
+          first-fits _ _ (lineText (frameLine (a .at) (getD s (a .at + 1) 0 + 4) (getD s (a .at + 2) 0))) (rest s (a .at + (getD s (a .at + 1) 0 + 4))) room,
+        ),
+      ),
+    )
 
--- src/scan.rt:109:18
-frame-add-noise : (t : ℕ) → frame-lts.Need-add-noise (
+-- src/scan.rt:118:16
+frame-add-from : (t : ℕ) → frame-lts.Need-add-from (
   put-frame-reads.Asked,
   put-frame-reads.Learnt,
   noise-below t,
   noise.Post,
 ) (frame-at t) frame.Post
-frame-add-noise t c =
+frame-add-from t c =
     let a = c .before .before .before .before .before .before .before .before .args in
     let s = a .bytes .now in
     let pre = c .before .before .before .before .before .before .before .before .pre .1 in
-    let h = pre .1 .1 .0 in
+    let h = pre .1 .0 in
     let whole = whole-inside s (a .at) h in
     omega (arith, whole, pre .0)
 
--- src/scan.rt:109:5
-frame-noise-requires : (t : ℕ) → frame-lts.Need-noise-requires (
-  put-frame-reads.Asked,
-  put-frame-reads.Learnt,
-  noise-below t,
-  noise.Post,
-) (frame-at t) frame.Post
-frame-noise-requires t c κs =
-    let a = c .before .before .before .before .before .before .before .before .before .args in
-    let s = a .bytes .now in
-    let pre = c .before .before .before .before .before .before .before .before .before .pre .1 in
-    let h = pre .1 .1 .0 in
-    let whole = whole-inside s (a .at) h in
-    let room = rw (frame-then s (a .at) h) at (pre .1 .1 .1) in
-    (omega (arith, c .before .before .before .before .before .before .before .before .before .pre .0, whole),
-    (pre .0, (whole, next-fits (rest s (a .at + (getD s (a .at + 1) 0 + 4))) (c .before .before .before .put-frame .ensures) room)))
-
--- src/scan.rt:100:1
+-- src/scan.rt:120:9
 frame-same-length : (t : ℕ) → frame-lts.Need-same-length (
   put-frame-reads.Asked,
   put-frame-reads.Learnt,
   noise-below t,
   noise.Post,
 ) (frame-at t) frame.Post
-frame-same-length t c = c .before .before .noise .kept .1 .1 .0 ∙ c .before .before .before .before .before .before .put-frame .kept .1 .1 .1 .0
+frame-same-length t c = c .before .before .before .put-frame .kept .1 .1 .1 .0
 
--- src/scan.rt:100:1
+-- src/scan.rt:120:9
 frame-returns : (t : ℕ) → frame-lts.Need-returns (
   put-frame-reads.Asked,
   put-frame-reads.Learnt,
@@ -214,47 +201,83 @@ frame-returns : (t : ℕ) → frame-lts.Need-returns (
   noise.Post,
 ) (frame-at t) frame.Post
 frame-returns t c =
-    let a = c .before .before .before .before .before .before .before .before .before .before .before .before .args in
+    let a = c .before .before .before .before .before .before .before .before .before .args in
     let s = a .bytes .now in
-    let pre = c .before .before .before .before .before .before .before .before .before .before .before .before .pre .1 in
-    let h = pre .1 .1 .0 in
+    let pre = c .before .before .before .before .before .before .before .before .before .pre .1 in
+    let h = pre .1 .0 in
     let whole = whole-inside s (a .at) h in
-    same-bytes (sym (frame-then s (a .at) h)) (joined (c .before .before .before .before .before .before .put-frame .ensures) (c .before .before .noise .ensures))
+    wrote-part (lineText (frameLine (a .at) (getD s (a .at + 1) 0 + 4) (getD s (a .at + 2) 0))) (c .before .before .before .put-frame .ensures) (frame-then s (a .at) h) (omega arith) whole
 
--- src/scan.rt:91:9
+-- src/scan.rt:125:5
+frame-noise-requires : (t : ℕ) → frame-lts.Need-noise-requires (
+  put-frame-reads.Asked,
+  put-frame-reads.Learnt,
+  noise-below t,
+  noise.Post,
+) (frame-at t) frame.Post
+frame-noise-requires t c κs =
+    let a = c .before .before .before .before .before .before .before .before .before .before .args in
+    let s = a .bytes .now in
+    let pre = c .before .before .before .before .before .before .before .before .before .before .pre .1 in
+    let h = pre .1 .0 in
+    let whole = whole-inside s (a .at) h in
+    let room = rw (frame-then s (a .at) h) at (pre .1 .1 .1) in (
+      omega (arith, c .before .before .before .before .before .before .before .before .before .before .pre .0, whole),
+      (pre .0, (omega (arith, c .before .if1 .left, pre .1 .1 .0), (pre .1 .1 .0, next-fits (rest s (a .at + (getD s (a .at + 1) 0 + 4))) (c .before .before .before .before .put-frame .ensures) room))),
+    )
+
+-- src/scan.rt:109:1
+frame-same-length-2 : (t : ℕ) → frame-lts.Need-same-length-2 (
+  put-frame-reads.Asked,
+  put-frame-reads.Learnt,
+  noise-below t,
+  noise.Post,
+) (frame-at t) frame.Post
+frame-same-length-2 t c = c .before .before .noise .kept .1 .1 .0 ∙ c .before .before .before .before .before .before .before .put-frame .kept .1 .1 .1 .0
+
+-- src/scan.rt:109:1
+frame-returns-2 : (t : ℕ) → frame-lts.Need-returns-2 (
+  put-frame-reads.Asked,
+  put-frame-reads.Learnt,
+  noise-below t,
+  noise.Post,
+) (frame-at t) frame.Post
+frame-returns-2 t c =
+    let a = c .before .before .before .before .before .before .before .before .before .before .before .before .before .args in
+    let s = a .bytes .now in
+    let pre = c .before .before .before .before .before .before .before .before .before .before .before .before .before .pre .1 in
+    let h = pre .1 .0 in
+    let whole = whole-inside s (a .at) h in
+    wrote-next (lineText (frameLine (a .at) (getD s (a .at + 1) 0 + 4) (getD s (a .at + 2) 0))) (c .before .before .before .before .before .before .before .put-frame .ensures) (frame-then s (a .at) h) (omega arith) (c .before .before .noise .ensures)
+
+-- src/scan.rt:100:9
 noise-next-frame-requires : (t : ℕ) → noise-lts.Need-next-frame-requires (
   next-frame-reads.Asked,
   next-frame-reads.Learnt,
   put-run-reads.Asked,
   put-run-reads.Learnt,
-  put-end-reads.Asked,
-  put-end-reads.Learnt,
   frame-below t,
   frame.Post,
 ) (noise-at t) noise.Post
-noise-next-frame-requires t c κs = c .before .before .pre .1 .1 .0
+noise-next-frame-requires t c κs = omega (arith, c .before .before .pre .1 .1 .0)
 
--- src/scan.rt:92:30
+-- src/scan.rt:101:30
 noise-sub-put-run : (t : ℕ) → noise-lts.Need-sub-put-run (
   next-frame-reads.Asked,
   next-frame-reads.Learnt,
   put-run-reads.Asked,
   put-run-reads.Learnt,
-  put-end-reads.Asked,
-  put-end-reads.Learnt,
   frame-below t,
   frame.Post,
 ) (noise-at t) noise.Post
 noise-sub-put-run t c = c .next-frame .ensures .0 .forward
 
--- src/scan.rt:92:9
+-- src/scan.rt:101:9
 noise-put-run-requires : (t : ℕ) → noise-lts.Need-put-run-requires (
   next-frame-reads.Asked,
   next-frame-reads.Learnt,
   put-run-reads.Asked,
   put-run-reads.Learnt,
-  put-end-reads.Asked,
-  put-end-reads.Learnt,
   frame-below t,
   frame.Post,
 ) (noise-at t) noise.Post
@@ -264,71 +287,48 @@ noise-put-run-requires t c κs =
     let pre = c .before .before .before .before .pre .1 in
     let at = c .before .next-frame .result in
     let q = c .before .next-frame .ensures .0 in
-    let first = noise-first s (a .from) at q (c .before .next-frame .ensures .1) in
-    (omega (arith, q .within, q .forward, pre .0),
-    (omega (arith, q .within, q .forward, pre .0),
-    first-fits _ _ (runText (a .from) (at - a .from)) (first .0) (rw (first .1) at (pre .1 .1))))
+    let found = c .before .next-frame .ensures .1 in
+    let room = rw (noise-then s (a .from) at q found) at (pre .1 .1 .1) in (
+      omega (arith, q .within, q .forward, pre .0),
+      (omega (arith, q .within, q .forward, pre .0), first-fits _ _ (runText (a .from) (at - a .from)) (rest s at) room),
+    )
 
--- src/scan.rt:94:9
-noise-put-end-requires : (t : ℕ) → noise-lts.Need-put-end-requires (
-  next-frame-reads.Asked,
-  next-frame-reads.Learnt,
-  put-run-reads.Asked,
-  put-run-reads.Learnt,
-  put-end-reads.Asked,
-  put-end-reads.Learnt,
-  frame-below t,
-  frame.Post,
-) (noise-at t) noise.Post
-noise-put-end-requires t c κs =
-    let a = c .before .before .before .before .before .before .before .before .before .args in
-    let s = a .bytes .now in
-    let pre = c .before .before .before .before .before .before .before .before .before .pre .1 in
-    let at = c .before .before .before .before .before .before .next-frame .result in
-    let q = c .before .before .before .before .before .before .next-frame .ensures .0 in
-    let room = rw (noise-then-end s (a .from) at q (c .before .if1 .taken)) at (pre .1 .1) in
-    (omega (arith, q .within, pre .0), next-fits (lineText (end at)) (c .before .before .before .before .put-run .ensures) room)
-
--- src/scan.rt:94:9
+-- src/scan.rt:103:9
 noise-same-length : (t : ℕ) → noise-lts.Need-same-length (
   next-frame-reads.Asked,
   next-frame-reads.Learnt,
   put-run-reads.Asked,
   put-run-reads.Learnt,
-  put-end-reads.Asked,
-  put-end-reads.Learnt,
   frame-below t,
   frame.Post,
 ) (noise-at t) noise.Post
-noise-same-length t c = c .before .before .put-end .kept .1 .0 ∙ c .before .before .before .before .before .before .before .put-run .kept .1 .1 .0
+noise-same-length t c = c .before .before .before .put-run .kept .1 .1 .0
 
--- src/scan.rt:94:9
+-- src/scan.rt:103:9
 noise-returns : (t : ℕ) → noise-lts.Need-returns (
   next-frame-reads.Asked,
   next-frame-reads.Learnt,
   put-run-reads.Asked,
   put-run-reads.Learnt,
-  put-end-reads.Asked,
-  put-end-reads.Learnt,
   frame-below t,
   frame.Post,
 ) (noise-at t) noise.Post
 noise-returns t c =
-    let a = c .before .before .before .before .before .before .before .before .before .before .before .before .args in
+    let a = c .before .before .before .before .before .before .before .before .args in
     let s = a .bytes .now in
-    let pre = c .before .before .before .before .before .before .before .before .before .before .before .before .pre .1 in
-    let at = c .before .before .before .before .before .before .before .before .before .next-frame .result in
-    let q = c .before .before .before .before .before .before .before .before .before .next-frame .ensures .0 in
-    same-bytes (sym (noise-then-end s (a .from) at q (c .before .before .before .before .if1 .taken))) (joined (c .before .before .before .before .before .before .before .put-run .ensures) (c .before .before .put-end .ensures))
+    let pre = c .before .before .before .before .before .before .before .before .pre .1 in
+    let at = c .before .before .before .before .before .next-frame .result in
+    let q = c .before .before .before .before .before .next-frame .ensures .0 in
+    let found = c .before .before .before .before .before .next-frame .ensures .1 in
+    wrote-part (runText (a .from) (at - a .from)) (c .before .before .before .put-run .ensures) (noise-then s (a .from) at q found)
+    (omega (arith, c .if1 .taken, pre .1 .0)) (q .within)
 
--- src/scan.rt:96:5
+-- src/scan.rt:105:5
 noise-frame-requires : (t : ℕ) → noise-lts.Need-frame-requires (
   next-frame-reads.Asked,
   next-frame-reads.Learnt,
   put-run-reads.Asked,
   put-run-reads.Learnt,
-  put-end-reads.Asked,
-  put-end-reads.Learnt,
   frame-below t,
   frame.Post,
 ) (noise-at t) noise.Post
@@ -338,33 +338,30 @@ noise-frame-requires t c κs =
     let pre = c .before .before .before .before .before .before .before .before .before .pre .1 in
     let at = c .before .before .before .before .before .before .next-frame .result in
     let q = c .before .before .before .before .before .before .next-frame .ensures .0 in
-    let inside : at < length s = omega (arith, q .within, c .before .if1 .left) in
-    let h = c .before .before .before .before .before .before .next-frame .ensures .1 inside in
-    let room = rw (noise-then-frame s (a .from) at q h) at (pre .1 .1) in
-    (omega (arith, c .before .before .before .before .before .before .before .before .before .pre .0, inside, q .forward),
-    (pre .0, (inside, (h, next-fits (rest s at) (c .before .before .before .before .put-run .ensures) room))))
+    let found = c .before .before .before .before .before .before .next-frame .ensures .1 in
+    let room = rw (noise-then s (a .from) at q found) at (pre .1 .1 .1) in
+    let inside : at < length s = omega (arith, q .within, c .before .if1 .left) in (
+      omega (arith, c .before .before .before .before .before .before .before .before .before .pre .0, inside, q .forward),
+      (pre .0, (found inside, (pre .1 .1 .0, next-fits (rest s at) (c .before .before .before .before .put-run .ensures) room))),
+    )
 
--- src/scan.rt:85:1
+-- src/scan.rt:93:1
 noise-same-length-2 : (t : ℕ) → noise-lts.Need-same-length-2 (
   next-frame-reads.Asked,
   next-frame-reads.Learnt,
   put-run-reads.Asked,
   put-run-reads.Learnt,
-  put-end-reads.Asked,
-  put-end-reads.Learnt,
   frame-below t,
   frame.Post,
 ) (noise-at t) noise.Post
 noise-same-length-2 t c = c .before .before .frame .kept .1 .1 .0 ∙ c .before .before .before .before .before .before .before .put-run .kept .1 .1 .0
 
--- src/scan.rt:85:1
+-- src/scan.rt:93:1
 noise-returns-2 : (t : ℕ) → noise-lts.Need-returns-2 (
   next-frame-reads.Asked,
   next-frame-reads.Learnt,
   put-run-reads.Asked,
   put-run-reads.Learnt,
-  put-end-reads.Asked,
-  put-end-reads.Learnt,
   frame-below t,
   frame.Post,
 ) (noise-at t) noise.Post
@@ -374,9 +371,8 @@ noise-returns-2 t c =
     let pre = c .before .before .before .before .before .before .before .before .before .before .before .before .pre .1 in
     let at = c .before .before .before .before .before .before .before .before .before .next-frame .result in
     let q = c .before .before .before .before .before .before .before .before .before .next-frame .ensures .0 in
-    let inside : at < length s = omega (arith, q .within, c .before .before .before .before .if1 .left) in
-    let h = c .before .before .before .before .before .before .before .before .before .next-frame .ensures .1 inside in
-    same-bytes (sym (noise-then-frame s (a .from) at q h)) (joined (c .before .before .before .before .before .before .before .put-run .ensures) (c .before .before .frame .ensures))
+    let found = c .before .before .before .before .before .before .before .before .before .next-frame .ensures .1 in
+    wrote-next (runText (a .from) (at - a .from)) (c .before .before .before .before .before .before .before .put-run .ensures) (noise-then s (a .from) at q found) (q .forward) (c .before .before .frame .ensures)
 
 pub +frame+noise-spec : {M : Type 1} → statement M
 +frame+noise-spec = close μ-frame μ-noise (λ t. frame-lts.spec (
@@ -395,17 +391,17 @@ pub +frame+noise-spec : {M : Type 1} → statement M
     (frame-shared-slice-read-put-frame t)
     (frame-cast-put-frame t)
     (frame-put-frame-requires t)
-    (frame-add-noise t)
-    (frame-noise-requires t)
+    (frame-add-from t)
     (frame-same-length t)
-    (frame-returns t))
+    (frame-returns t)
+    (frame-noise-requires t)
+    (frame-same-length-2 t)
+    (frame-returns-2 t))
     λ t. noise-lts.spec (
       next-frame-reads.Asked,
       next-frame-reads.Learnt,
       put-run-reads.Asked,
       put-run-reads.Learnt,
-      put-end-reads.Asked,
-      put-end-reads.Learnt,
       frame-below t,
       frame.Post,
     )
@@ -414,7 +410,6 @@ pub +frame+noise-spec : {M : Type 1} → statement M
     (noise-next-frame-requires t)
     (noise-sub-put-run t)
     (noise-put-run-requires t)
-    (noise-put-end-requires t)
     (noise-same-length t)
     (noise-returns t)
     (noise-frame-requires t)

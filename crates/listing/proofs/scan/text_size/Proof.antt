@@ -5,7 +5,7 @@ use lib.ListN.{length, getD, drop}
 use native.Mathlib.Omega.{arith}
 use Rattle.listing.specs.Parts.{rest, starts}
 use Rattle.listing.proofs.Laws.Pieces.{whole-inside}
-use Rattle.listing.proofs.Laws.Sizes.{run-bound, enough-room, size-to-end, size-to-frame}
+use Rattle.listing.proofs.Laws.Sizes.{enough-room, size-of-noise, size-of-frame, size-of-end}
 use Rattle.listing.proofs.scan.text_size.Statement.{statement}
 use Rattle.listing.proofs.scan.text_size.Tie as tie
 use Rattle.listing.proofs.scan.text_size.Reads as reads
@@ -53,13 +53,8 @@ add-size c =
     let q = c .before .next-frame .ensures .0 in
     let known = c .before .before .before .shared-slice-known .given in
     let all : length (rest s 0) ≤ 8 * length s + 25 = enough-room s (λ i. omega (arith, known i)) (c .before .before .before .before .pre) in
-    omega (
-      arith,
-      q .within,
-      q .forward,
-      c .run-size .ensures,
-      run-bound from (at - from) (omega (arith, q .within, q .forward, c .before .before .before .before .pre)) (omega (arith, q .within, q .forward, c .before .before .before .before .pre)),
-    )
+    let by-noise = size-of-noise s from at q (c .before .next-frame .ensures .1) in
+    omega (arith, c .run-size .ensures, c .before .before .loop .inv .1, c .before .before .before .before .pre)
 
 -- src/scan.rt:75:27
 end-size-requires : tie.Need-end-size-requires Inv-loop μ-loop
@@ -81,7 +76,8 @@ add-result c =
     let q = c .before .before .before .next-frame .ensures .0 in
     let known = c .before .before .before .before .before .shared-slice-known .given in
     let all : length (rest s 0) ≤ 8 * length s + 25 = enough-room s (λ i. omega (arith, known i)) (c .before .before .before .before .before .before .pre) in
-    omega (arith, size-to-end s from at q (c .before .if1 .taken), c .before .before .run-size .ensures, c .before .before .before .before .loop .inv .1)
+    let by-noise = size-of-noise s from at q (c .before .before .before .next-frame .ensures .1) in
+    omega (arith, size-of-end s at (omega (arith, c .before .if1 .taken)), c .before .before .run-size .ensures, c .before .before .before .before .loop .inv .1, c .before .before .before .before .before .before .pre)
 
 -- src/scan.rt:75:13
 returns : tie.Need-returns Inv-loop μ-loop
@@ -91,7 +87,8 @@ returns c =
     let from = c .before .before .before .before .loop .from in
     let at = c .before .before .before .next-frame .result in
     let q = c .before .before .before .next-frame .ensures .0 in
-    omega (arith, size-to-end s from at q (c .before .if1 .taken), c .before .before .run-size .ensures, c .before .before .before .before .loop .inv .1)
+    let by-noise = size-of-noise s from at q (c .before .before .before .next-frame .ensures .1) in
+    omega (arith, size-of-end s at (omega (arith, c .before .if1 .taken)), c .before .before .run-size .ensures, c .before .before .before .before .loop .inv .1)
 
 -- src/scan.rt:77:27
 add-count : tie.Need-add-count Inv-loop μ-loop
@@ -192,7 +189,8 @@ add-size-2 c =
     let inside : at < length s = omega (arith, q .within, c .before .before .before .if1 .left) in
     let h : starts (drop at s) ≡ true = c .before .before .before .before .before .next-frame .ensures .1 inside in
     let whole : at + (getD s (at + 1) 0 + 4) ≤ length s = whole-inside s at h in
-    omega (arith, size-to-frame s from at q h, c .frame-size .ensures, c .before .before .before .before .run-size .ensures, c .before .before .before .before .before .before .loop .inv .1, c .before .before .before .before .before .before .before .before .pre)
+    let by-noise = size-of-noise s from at q (c .before .before .before .before .before .next-frame .ensures .1) in
+    omega (arith, size-of-frame s at h, c .frame-size .ensures, c .before .before .before .before .run-size .ensures, c .before .before .before .before .before .before .loop .inv .1, c .before .before .before .before .before .before .before .before .pre)
 
 -- src/scan.rt:79:16
 add-from : tie.Need-add-from Inv-loop μ-loop
@@ -231,7 +229,8 @@ loop-again c =
     let inside : at < length s = omega (arith, q .within, c .before .before .before .if1 .left) in
     let h : starts (drop at s) ≡ true = c .before .before .before .before .before .next-frame .ensures .1 inside in
     let whole : at + (getD s (at + 1) 0 + 4) ≤ length s = whole-inside s at h in
-    omega (arith, size-to-frame s from at q h, c .frame-size .ensures, c .before .before .before .before .run-size .ensures, c .before .before .before .before .before .before .loop .inv .1)
+    let by-noise = size-of-noise s from at q (c .before .before .before .before .before .next-frame .ensures .1) in
+    omega (arith, size-of-frame s at h, c .frame-size .ensures, c .before .before .before .before .run-size .ensures, c .before .before .before .before .before .before .loop .inv .1)
 
 pub text-size-spec : {M : Type 1} → statement M
 text-size-spec =
