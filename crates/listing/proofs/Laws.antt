@@ -1,4 +1,5 @@
 pub mod Answers
+pub mod Faithful
 pub mod Frames
 pub mod Numbers
 pub mod Output

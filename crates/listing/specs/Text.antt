@@ -1,5 +1,5 @@
 -- Document 01, "The capture listing": the text of the lines, and what the listing answers.
-use Prim.Native.Nat.{ℕ, zero, suc, _+_, _/_, _%_}
+use Prim.Native.Nat.{ℕ, zero, suc, _+_, _-_, _*_, _/_, _%_}
 use mathlib.Core.Bool.{cond}
 use mathlib.Core.List.{List, [], _∷_, _++_}
 use lib.Dec.{ltb}
@@ -21,6 +21,11 @@ digits (suc most) n =
 -- a number in decimal, without leading zeros: n has no more than n + 1 digits
 unfoldable pub number : ℕ → List ℕ
 number n = digits (suc n) n
+
+-- the number that digits spell, behind those read already
+abbrev pub spelt : ℕ → List ℕ → ℕ
+spelt before [] = before
+spelt before (d ∷ ds) = spelt (before * 10 + (d - digit 0)) ds
 
 -- "noise ", "frame " and "end "
 abbrev pub noiseWord : List ℕ

@@ -8,7 +8,7 @@ use lib.Dec.{ltb}
 use lib.ListN.{length, length-append}
 use borrow.Author.Tests.{lt-ltb, le-ltb, ltb-true, ltb-false}
 use Rattle.listing.specs.Lines.{noise, frame, end}
-use Rattle.listing.specs.Text.{digit, digits, number, lineText}
+use Rattle.listing.specs.Text.{digit, digits, number, spelt, lineText}
 use Rattle.listing.specs.Parts.{runText}
 
 -- more than enough digits are no other digits
@@ -54,6 +54,25 @@ below-10000 n l h =
     from-10 n (omega arith)
     ∙ ap (λ (d : List ℕ). d ++ (digit (n % 10) ∷ [])) (below-1000 (n / 10) (omega arith) (omega arith))
     ∙ ap₂ {C = List ℕ} (λ (d f : ℕ). digit d ∷ digit (f % 10) ∷ digit (n / 10 % 10) ∷ digit (n % 10) ∷ []) e g
+
+-- the digits spell the number
+spelt-behind : (before d : ℕ) (ds : List ℕ) → spelt before (ds ++ (d ∷ [])) ≡ spelt before ds * 10 + (d - 0x30)
+spelt-behind before d [] = refl
+spelt-behind before d (e ∷ ds) = spelt-behind (before * 10 + (e - 0x30)) d ds
+
+digits-spell : (k n : ℕ) → n < k → spelt 0 (digits k n) ≡ n
+unfolding digits
+digits-spell zero n h = let z : ⊥ = omega arith in absurd z
+digits-spell (suc k) n h = go (digits k (n / 10)) (λ more. digits-spell k (n / 10) (omega arith)) (ltb n 10) refl
+  where
+    go : (ds : List ℕ) → (10 ≤ n → spelt 0 ds ≡ n / 10) → (t : Bool) → ltb n 10 ≡ t
+        → spelt 0 (cond t (digit n ∷ []) (ds ++ (digit (n % 10) ∷ []))) ≡ n
+    go ds f true e = omega arith
+    go ds f false e = omega (arith, spelt-behind 0 (digit (n % 10)) ds, f (ltb-false n 10 e))
+
+pub number-spells : (n : ℕ) → spelt 0 (number n) ≡ n
+unfolding number
+number-spells n = digits-spell (suc n) n (omega arith)
 
 -- ten times as large a number has at most one digit more
 one-more : (k b : ℕ) → 1 ≤ k → ((m : ℕ) → m < b → length (number m) ≤ k) → (n : ℕ) → n < 10 * b → length (number n) ≤ k + 1
