@@ -1,24 +1,19 @@
 use Prim.Native.Nat.{ℕ, _+_, _*_, _≤_}
-use mathlib.Core.Path.{_≡_, sym, ap, _∙_}
-use mathlib.Core.List.{List}
+use borrow.Author.Needs.{needs}
 use denote.Ref.{now}
 use lib.ListN.{length}
+use mathlib.Core.List.{List}
+use mathlib.Core.Path.{_≡_, sym, ap, _∙_}
 use native.Mathlib.Omega.{arith}
 use Rattle.answer.specs.Answer.{Outcome, refused, accepted, onAccepted, inRoom, outAfter}
-use Rattle.listing.specs.Text.{listing}
-use Rattle.listing.specs.Parts.{rest}
 use Rattle.listing.proofs.Laws.Answers.{too-long, too-little, fits}
 use Rattle.listing.proofs.Laws.Output.{from-start}
 use Rattle.listing.proofs.Laws.Sizes.{enough-room}
-use borrow.Author.Needs.{needs}
 use Rattle.listing.proofs.write.Statement.{statement}
 use Rattle.listing.proofs.write.Tie as tie
-use Rattle.listing.proofs.write.Reads as reads
-use Rattle.listing.proofs.write.Lts as lts
-use Rattle.listing.proofs.scan.put_listing.Reads as put-listing-reads
-use Rattle.listing.proofs.scan.text_size.Reads as text-size-reads
+use Rattle.listing.specs.Parts.{rest}
+use Rattle.listing.specs.Text.{listing}
 
--- src/lib.rt:22:9
 returns : tie.Need-returns
 returns c =
     let a = c .before .before .before .args in
@@ -26,11 +21,9 @@ returns c =
     too-long (now (a .bytes)) (length (now (a .out))) (c .if1 .taken) in
     (sym (ap (onAccepted length) o), sym (ap (λ (x : Outcome (List ℕ)). outAfter x (now (a .out))) o))
 
--- src/lib.rt:24:9
 text-size-requires : tie.Need-text-size-requires
 text-size-requires c κs = search needs
 
--- src/lib.rt:26:9
 returns-2 : tie.Need-returns-2
 returns-2 c =
     let a = c .before .before .before .before .before .args in
@@ -38,11 +31,9 @@ returns-2 c =
     too-little (now (a .bytes)) (length (now (a .out))) (c .before .before .if1 .left) (omega (arith, c .if2 .taken, c .before .text-size .ensures)) in
     (sym (ap (onAccepted length) o), sym (ap (λ (x : Outcome (List ℕ)). outAfter x (now (a .out))) o))
 
--- src/lib.rt:28:5
 put-listing-requires : tie.Need-put-listing-requires
 put-listing-requires c κs = search needs
 
--- src/lib.rt:29:20
 cast-t10 : tie.Need-cast-t10
 cast-t10 c =
     let s = c .before .before .before .before .before .before .before .before .before .args .bytes .now in
@@ -50,11 +41,9 @@ cast-t10 c =
     let small : length s ≤ 4096 = c .before .before .before .before .before .before .if1 .left in
     omega (arith, c .before .before .before .before .before .text-size .ensures, enough-room s (λ i. omega (arith, known i)) small)
 
--- src/lib.rt:17:1
 same-length : tie.Need-same-length
 same-length c = search needs
 
--- src/lib.rt:17:1
 returns-3 : tie.Need-returns-3
 returns-3 c =
     let a = c .before .before .before .before .before .before .before .before .before .args in

@@ -1,26 +1,26 @@
 use Prim.Native.Nat.{_+_, _-_, _*_}
-use mathlib.Core.Path.{_≡_, sym, subst, _∙_}
-use lib.ListN.{length, getD}
-use native.Mathlib.Omega.{arith}
-use Rattle.listing.specs.Lines.{frame as frameLine, end}
-use Rattle.listing.specs.Text.{lineText}
-use Rattle.listing.specs.Parts.{rest, runText}
-use Rattle.listing.proofs.Laws.Output.{first-fits, next-fits}
-use Rattle.listing.proofs.Laws.Pieces.{noise-then, frame-then, whole-inside, wrote-part, wrote-next}
 use Prim.Native.Nat.{ℕ, _<_}
 use borrow.Fn.Kinds.{In}
 use borrow.Fn.PlainCycle.{Measures, is, falls, and}
-use Rattle.listing.proofs.scan.frame.Reads as frame
-use Rattle.listing.proofs.scan.frame.Kinds as frame-kinds
+use lib.ListN.{length, getD}
+use mathlib.Core.Path.{_≡_, sym, subst, _∙_}
+use native.Mathlib.Omega.{arith}
+use Rattle.listing.proofs.Laws.Output.{first-fits, next-fits}
+use Rattle.listing.proofs.Laws.Pieces.{noise-then, frame-then, whole-inside, wrote-part, wrote-next}
 use Rattle.listing.proofs.scan.+frame+noise.Lts-frame as frame-lts
-use Rattle.listing.proofs.scan.noise.Reads as noise
-use Rattle.listing.proofs.scan.noise.Kinds as noise-kinds
 use Rattle.listing.proofs.scan.+frame+noise.Lts-noise as noise-lts
+use Rattle.listing.proofs.scan.+frame+noise.Tie.{close}
+use Rattle.listing.proofs.scan.+frame+noise.{statement}
+use Rattle.listing.proofs.scan.frame.Kinds as frame-kinds
+use Rattle.listing.proofs.scan.frame.Reads as frame
 use Rattle.listing.proofs.scan.next_frame.Reads as next-frame-reads
+use Rattle.listing.proofs.scan.noise.Kinds as noise-kinds
+use Rattle.listing.proofs.scan.noise.Reads as noise
 use Rattle.listing.proofs.text.put_frame.Reads as put-frame-reads
 use Rattle.listing.proofs.text.put_run.Reads as put-run-reads
-use Rattle.listing.proofs.scan.+frame+noise.{statement}
-use Rattle.listing.proofs.scan.+frame+noise.Tie.{close}
+use Rattle.listing.specs.Lines.{frame as frameLine, end}
+use Rattle.listing.specs.Parts.{rest, runText}
+use Rattle.listing.specs.Text.{lineText}
 
 abbrev μ-frame : Measures 2 frame-kinds.ps ℕ
 μ-frame κs a = (length (a .0 .now) - a .1 .0) * 2
@@ -40,7 +40,6 @@ noise-at t = and 2 noise-kinds.ps (is 2 noise-kinds.ps μ-noise t) noise.Pre
 abbrev noise-below : ℕ → In 2 noise-kinds.ps
 noise-below t = and 2 noise-kinds.ps (falls 2 noise-kinds.ps _<_ μ-noise t) noise.Pre
 
--- src/scan.rt:116:23
 frame-add-count : (t : ℕ) → frame-lts.Need-add-count (
   put-frame-reads.Asked,
   put-frame-reads.Learnt,
@@ -55,7 +54,6 @@ frame-add-count t c =
     let whole = whole-inside s (a .at) h in
     omega (arith, whole, pre .0)
 
--- src/scan.rt:116:17
 frame-shared-slice-read-count : (t : ℕ) → frame-lts.Need-shared-slice-read-count (
   put-frame-reads.Asked,
   put-frame-reads.Learnt,
@@ -70,7 +68,6 @@ frame-shared-slice-read-count t c =
     let whole = whole-inside s (a .at) h in
     omega (arith, whole)
 
--- src/scan.rt:116:17
 frame-cast-count : (t : ℕ) → frame-lts.Need-cast-count (
   put-frame-reads.Asked,
   put-frame-reads.Learnt,
@@ -85,7 +82,6 @@ frame-cast-count t c =
     let whole = whole-inside s (a .at) h in
     omega (arith, c .shared-slice-known2 .given (a .at + 1))
 
--- src/scan.rt:116:17
 frame-add-count-2 : (t : ℕ) → frame-lts.Need-add-count-2 (
   put-frame-reads.Asked,
   put-frame-reads.Learnt,
@@ -100,7 +96,6 @@ frame-add-count-2 t c =
     let whole = whole-inside s (a .at) h in
     omega (arith, c .shared-slice-known2 .given (a .at + 1))
 
--- src/scan.rt:117:43
 frame-add-put-frame : (t : ℕ) → frame-lts.Need-add-put-frame (
   put-frame-reads.Asked,
   put-frame-reads.Learnt,
@@ -115,7 +110,6 @@ frame-add-put-frame t c =
     let whole = whole-inside s (a .at) h in
     omega (arith, whole, pre .0)
 
--- src/scan.rt:117:37
 frame-shared-slice-read-put-frame : (t : ℕ) → frame-lts.Need-shared-slice-read-put-frame (
   put-frame-reads.Asked,
   put-frame-reads.Learnt,
@@ -130,7 +124,6 @@ frame-shared-slice-read-put-frame t c =
     let whole = whole-inside s (a .at) h in
     omega (arith, whole)
 
--- src/scan.rt:117:37
 frame-cast-put-frame : (t : ℕ) → frame-lts.Need-cast-put-frame (
   put-frame-reads.Asked,
   put-frame-reads.Learnt,
@@ -145,7 +138,6 @@ frame-cast-put-frame t c =
     let whole = whole-inside s (a .at) h in
     omega (arith, c .shared-slice-known3 .given (a .at + 2))
 
--- src/scan.rt:117:9
 frame-put-frame-requires : (t : ℕ) → frame-lts.Need-put-frame-requires (
   put-frame-reads.Asked,
   put-frame-reads.Learnt,
@@ -169,7 +161,6 @@ frame-put-frame-requires t c κs =
       ),
     )
 
--- src/scan.rt:118:16
 frame-add-from : (t : ℕ) → frame-lts.Need-add-from (
   put-frame-reads.Asked,
   put-frame-reads.Learnt,
@@ -184,7 +175,6 @@ frame-add-from t c =
     let whole = whole-inside s (a .at) h in
     omega (arith, whole, pre .0)
 
--- src/scan.rt:120:9
 frame-same-length : (t : ℕ) → frame-lts.Need-same-length (
   put-frame-reads.Asked,
   put-frame-reads.Learnt,
@@ -193,7 +183,6 @@ frame-same-length : (t : ℕ) → frame-lts.Need-same-length (
 ) (frame-at t) frame.Post
 frame-same-length t c = c .before .before .before .put-frame .kept .1 .1 .1 .0
 
--- src/scan.rt:120:9
 frame-returns : (t : ℕ) → frame-lts.Need-returns (
   put-frame-reads.Asked,
   put-frame-reads.Learnt,
@@ -208,7 +197,6 @@ frame-returns t c =
     let whole = whole-inside s (a .at) h in
     wrote-part (lineText (frameLine (a .at) (getD s (a .at + 1) 0 + 4) (getD s (a .at + 2) 0))) (c .before .before .before .put-frame .ensures) (frame-then s (a .at) h) (omega arith) whole
 
--- src/scan.rt:125:5
 frame-noise-requires : (t : ℕ) → frame-lts.Need-noise-requires (
   put-frame-reads.Asked,
   put-frame-reads.Learnt,
@@ -226,7 +214,6 @@ frame-noise-requires t c κs =
       (pre .0, (omega (arith, c .before .if1 .left, pre .1 .1 .0), (pre .1 .1 .0, next-fits (rest s (a .at + (getD s (a .at + 1) 0 + 4))) (c .before .before .before .before .put-frame .ensures) room))),
     )
 
--- src/scan.rt:109:1
 frame-same-length-2 : (t : ℕ) → frame-lts.Need-same-length-2 (
   put-frame-reads.Asked,
   put-frame-reads.Learnt,
@@ -235,7 +222,6 @@ frame-same-length-2 : (t : ℕ) → frame-lts.Need-same-length-2 (
 ) (frame-at t) frame.Post
 frame-same-length-2 t c = c .before .before .noise .kept .1 .1 .0 ∙ c .before .before .before .before .before .before .before .put-frame .kept .1 .1 .1 .0
 
--- src/scan.rt:109:1
 frame-returns-2 : (t : ℕ) → frame-lts.Need-returns-2 (
   put-frame-reads.Asked,
   put-frame-reads.Learnt,
@@ -250,7 +236,6 @@ frame-returns-2 t c =
     let whole = whole-inside s (a .at) h in
     wrote-next (lineText (frameLine (a .at) (getD s (a .at + 1) 0 + 4) (getD s (a .at + 2) 0))) (c .before .before .before .before .before .before .before .put-frame .ensures) (frame-then s (a .at) h) (omega arith) (c .before .before .noise .ensures)
 
--- src/scan.rt:100:9
 noise-next-frame-requires : (t : ℕ) → noise-lts.Need-next-frame-requires (
   next-frame-reads.Asked,
   next-frame-reads.Learnt,
@@ -261,7 +246,6 @@ noise-next-frame-requires : (t : ℕ) → noise-lts.Need-next-frame-requires (
 ) (noise-at t) noise.Post
 noise-next-frame-requires t c κs = omega (arith, c .before .before .pre .1 .1 .0)
 
--- src/scan.rt:101:30
 noise-sub-put-run : (t : ℕ) → noise-lts.Need-sub-put-run (
   next-frame-reads.Asked,
   next-frame-reads.Learnt,
@@ -272,7 +256,6 @@ noise-sub-put-run : (t : ℕ) → noise-lts.Need-sub-put-run (
 ) (noise-at t) noise.Post
 noise-sub-put-run t c = c .next-frame .ensures .0 .forward
 
--- src/scan.rt:101:9
 noise-put-run-requires : (t : ℕ) → noise-lts.Need-put-run-requires (
   next-frame-reads.Asked,
   next-frame-reads.Learnt,
@@ -293,7 +276,6 @@ noise-put-run-requires t c κs =
       (omega (arith, q .within, q .forward, pre .0), first-fits _ _ (runText (a .from) (at - a .from)) (rest s at) room),
     )
 
--- src/scan.rt:103:9
 noise-same-length : (t : ℕ) → noise-lts.Need-same-length (
   next-frame-reads.Asked,
   next-frame-reads.Learnt,
@@ -304,7 +286,6 @@ noise-same-length : (t : ℕ) → noise-lts.Need-same-length (
 ) (noise-at t) noise.Post
 noise-same-length t c = c .before .before .before .put-run .kept .1 .1 .0
 
--- src/scan.rt:103:9
 noise-returns : (t : ℕ) → noise-lts.Need-returns (
   next-frame-reads.Asked,
   next-frame-reads.Learnt,
@@ -323,7 +304,6 @@ noise-returns t c =
     wrote-part (runText (a .from) (at - a .from)) (c .before .before .before .put-run .ensures) (noise-then s (a .from) at q found)
     (omega (arith, c .if1 .taken, pre .1 .0)) (q .within)
 
--- src/scan.rt:105:5
 noise-frame-requires : (t : ℕ) → noise-lts.Need-frame-requires (
   next-frame-reads.Asked,
   next-frame-reads.Learnt,
@@ -345,7 +325,6 @@ noise-frame-requires t c κs =
       (pre .0, (found inside, (pre .1 .1 .0, next-fits (rest s at) (c .before .before .before .before .put-run .ensures) room))),
     )
 
--- src/scan.rt:93:1
 noise-same-length-2 : (t : ℕ) → noise-lts.Need-same-length-2 (
   next-frame-reads.Asked,
   next-frame-reads.Learnt,
@@ -356,7 +335,6 @@ noise-same-length-2 : (t : ℕ) → noise-lts.Need-same-length-2 (
 ) (noise-at t) noise.Post
 noise-same-length-2 t c = c .before .before .frame .kept .1 .1 .0 ∙ c .before .before .before .before .before .before .before .put-run .kept .1 .1 .0
 
--- src/scan.rt:93:1
 noise-returns-2 : (t : ℕ) → noise-lts.Need-returns-2 (
   next-frame-reads.Asked,
   next-frame-reads.Learnt,

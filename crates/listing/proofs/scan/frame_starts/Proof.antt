@@ -1,91 +1,71 @@
-use mathlib.Core.Path.{_≡_, sym, ap, _∙_}
 use Prim.Native.Nat.{ℕ, _+_, _-_}
-use mathlib.Core.List.{List}
+use borrow.Author.Needs.{needs}
 use lib.ListN.{getD, take, drop}
+use mathlib.Core.List.{List}
+use mathlib.Core.Path.{_≡_, sym, ap, _∙_}
 use native.Mathlib.Omega.{arith}
 use Rattle.answer.specs.Answer.{Outcome}
 use Rattle.link.specs.Frame.{Header}
-use Rattle.listing.specs.Parts.{isAccepted}
 use Rattle.listing.proofs.Laws.Frames.{other-byte, too-few, by-reading}
-use borrow.Author.Needs.{needs}
 use Rattle.listing.proofs.scan.frame_starts.Statement.{statement}
 use Rattle.listing.proofs.scan.frame_starts.Tie as tie
-use Rattle.listing.proofs.scan.frame_starts.Reads as reads
-use Rattle.listing.proofs.scan.frame_starts.Lts as lts
-use Rattle.link.proofs.frame.read.Reads as read-reads
-use Rattle.listing.proofs.scan.is_frame.Reads as is-frame-reads
+use Rattle.listing.specs.Parts.{isAccepted}
 
--- src/scan.rt:34:8
 shared-slice-read-if1 : tie.Need-shared-slice-read-if1
 shared-slice-read-if1 c = search needs
 
--- src/scan.rt:35:9
 returns : tie.Need-returns
 returns c =
     let a = c .before .before .before .args in
     sym (other-byte (a .bytes .now) (a .at) (c .if1 .taken))
 
--- src/scan.rt:37:16
 sub-left : tie.Need-sub-left
 sub-left c = search needs
 
--- src/scan.rt:39:9
 returns-2 : tie.Need-returns-2
 returns-2 c =
     let a = c .before .before .before .before .args in
     sym (too-few (a .bytes .now) (a .at) (omega arith))
 
--- src/scan.rt:41:23
 add-count : tie.Need-add-count
 add-count c = search needs
 
--- src/scan.rt:41:17
 shared-slice-read-count : tie.Need-shared-slice-read-count
 shared-slice-read-count c = search needs
 
--- src/scan.rt:41:17
 cast-count : tie.Need-cast-count
 cast-count c =
     let a = c .before .before .before .before .before .args in
     omega (arith, c .shared-slice-known3 .given (a .at + 1))
 
--- src/scan.rt:41:17
 add-count-2 : tie.Need-add-count-2
 add-count-2 c =
     let a = c .before .before .before .before .before .args in
     omega (arith, c .shared-slice-known3 .given (a .at + 1))
 
--- src/scan.rt:43:9
 returns-3 : tie.Need-returns-3
 returns-3 c =
     let a = c .before .before .before .before .before .before .args in
     sym (too-few (a .bytes .now) (a .at) (omega arith))
 
--- src/scan.rt:45:43
 add-read : tie.Need-add-read
 add-read c = search needs
 
--- src/scan.rt:45:32
 sub-read : tie.Need-sub-read
 sub-read c = search needs
 
--- src/scan.rt:45:32
 part-read-start : tie.Need-part-read-start
 part-read-start c = search needs
 
--- src/scan.rt:45:32
 part-read-end : tie.Need-part-read-end
 part-read-end c = search needs
 
--- src/scan.rt:45:14
 read-requires : tie.Need-read-requires
 read-requires c κs = search needs
 
--- src/scan.rt:45:5
 is-frame-requires : tie.Need-is-frame-requires
 is-frame-requires c κs = search needs
 
--- src/scan.rt:30:1
 returns-4 : tie.Need-returns-4
 returns-4 c =
     let a = c .before .before .before .before .before .before .before .before .before .args in

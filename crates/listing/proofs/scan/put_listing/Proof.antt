@@ -1,16 +1,11 @@
-use mathlib.Core.Path.{ap, _∙_}
-use Rattle.listing.proofs.Laws.Output.{put-length}
 use Prim.Native.Nat.{_-_}
 use lib.ListN.{length}
+use mathlib.Core.Path.{ap, _∙_}
 use native.Mathlib.Omega.{arith}
+use Rattle.listing.proofs.Laws.Output.{put-length}
 use Rattle.listing.proofs.Laws.Pieces.{Begun, begun-none, begun-more, begun-room, begun-ended, rest-at-end}
 use Rattle.listing.proofs.scan.put_listing.Statement.{statement}
 use Rattle.listing.proofs.scan.put_listing.Tie as tie
-use Rattle.listing.proofs.scan.put_listing.Reads as reads
-use Rattle.listing.proofs.scan.put_listing.Lts as lts
-use Rattle.listing.proofs.scan.noise.Reads as noise-reads
-use Rattle.listing.proofs.scan.stretch_end.Reads as stretch-end-reads
-use Rattle.listing.proofs.text.put_end.Reads as put-end-reads
 
 abbrev Inv-loop : tie.InvT-loop
 Inv-loop bytes out₀ at₀ place₀ out at place = Begun bytes out₀ out at place
@@ -18,37 +13,29 @@ Inv-loop bytes out₀ at₀ place₀ out at place = Begun bytes out₀ out at pl
 abbrev μ-loop : tie.MeasureT-loop
 μ-loop bytes out₀ at₀ place₀ out at place = length bytes - at
 
--- src/scan.rt:147:5
 loop-holds : tie.Need-loop-holds Inv-loop μ-loop
 loop-holds c = begun-none
 
--- src/scan.rt:148:52
 stretch-end-requires : tie.Need-stretch-end-requires Inv-loop μ-loop
 stretch-end-requires c κs = c .before .before .loop .inv .within
 
--- src/scan.rt:148:13
 noise-requires : tie.Need-noise-requires Inv-loop μ-loop
 noise-requires c κs = (c .before .before .before .before .before .before .pre .0, (c .before .before .loop-test .taken, (c .stretch-end .ensures, begun-room (c .before .before .before .loop .inv) (c .before .before .before .before .before .before .pre .1))))
 
--- src/scan.rt:147:5
 loop-less : tie.Need-loop-less Inv-loop μ-loop
 loop-less c = omega (arith, c .before .before .noise .ensures .forward, c .before .before .noise .ensures .within)
 
--- src/scan.rt:147:5
 loop-again : tie.Need-loop-again Inv-loop μ-loop
 loop-again c = begun-more (c .before .before .before .before .before .before .loop .inv) (c .before .before .noise .ensures)
 
--- src/scan.rt:152:5
 put-end-requires : tie.Need-put-end-requires Inv-loop μ-loop
 put-end-requires c κs =
     let b = c .before .before .loop .inv in
     (omega (arith, b .within, c .before .before .before .before .before .pre .0), rw (rest-at-end (c .before .before .before .before .before .args .bytes .now) (c .before .before .loop .at) (c .before .loop-test .left)) at (begun-room b (c .before .before .before .before .before .pre .1)))
 
--- src/scan.rt:140:1
 same-length : tie.Need-same-length Inv-loop μ-loop
 same-length c = c .before .before .put-end .kept .1 .0 ∙ put-length (c .before .before .before .before .before .loop .inv .put)
 
--- src/scan.rt:140:1
 returns : tie.Need-returns Inv-loop μ-loop
 returns c = begun-ended (c .before .before .before .before .before .loop .inv) (c .before .before .before .before .loop-test .left) (c .before .before .put-end .ensures)
 

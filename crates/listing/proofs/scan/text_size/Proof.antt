@@ -1,19 +1,13 @@
 use Prim.Native.Nat.{ℕ, _+_, _-_, _*_, _<_, _≤_}
-use mathlib.Core.Path.{_≡_, refl}
-use mathlib.Core.Bool.{true}
 use lib.ListN.{length, getD, drop}
+use mathlib.Core.Bool.{true}
+use mathlib.Core.Path.{_≡_, refl}
 use native.Mathlib.Omega.{arith}
-use Rattle.listing.specs.Parts.{rest, starts}
 use Rattle.listing.proofs.Laws.Pieces.{whole-inside}
 use Rattle.listing.proofs.Laws.Sizes.{enough-room, size-of-noise, size-of-frame, size-of-end}
 use Rattle.listing.proofs.scan.text_size.Statement.{statement}
 use Rattle.listing.proofs.scan.text_size.Tie as tie
-use Rattle.listing.proofs.scan.text_size.Reads as reads
-use Rattle.listing.proofs.scan.text_size.Lts as lts
-use Rattle.listing.proofs.scan.next_frame.Reads as next-frame-reads
-use Rattle.listing.proofs.text.end_size.Reads as end-size-reads
-use Rattle.listing.proofs.text.frame_size.Reads as frame-size-reads
-use Rattle.listing.proofs.text.run_size.Reads as run-size-reads
+use Rattle.listing.specs.Parts.{rest, starts}
 
 abbrev Inv-loop : tie.InvT-loop
 Inv-loop bytes size₀ from₀ size from = (from ≤ length bytes) × (size + length (rest bytes from) ≡ length (rest bytes 0))
@@ -21,19 +15,15 @@ Inv-loop bytes size₀ from₀ size from = (from ≤ length bytes) × (size + le
 abbrev μ-loop : tie.MeasureT-loop
 μ-loop bytes size₀ from₀ size from = length bytes - from
 
--- src/scan.rt:71:5
 loop-holds : tie.Need-loop-holds Inv-loop μ-loop
 loop-holds c = omega arith
 
--- src/scan.rt:72:13
 next-frame-requires : tie.Need-next-frame-requires Inv-loop μ-loop
 next-frame-requires c κs = c .loop .inv .0
 
--- src/scan.rt:73:32
 sub-run-size : tie.Need-sub-run-size Inv-loop μ-loop
 sub-run-size c = c .next-frame .ensures .0 .forward
 
--- src/scan.rt:73:17
 run-size-requires : tie.Need-run-size-requires Inv-loop μ-loop
 run-size-requires c κs =
     let a = c .before .before .before .args in
@@ -43,7 +33,6 @@ run-size-requires c κs =
     let q = c .next-frame .ensures .0 in
     omega (arith, q .within, q .forward, c .before .before .before .pre)
 
--- src/scan.rt:73:9
 add-size : tie.Need-add-size Inv-loop μ-loop
 add-size c =
     let a = c .before .before .before .before .args in
@@ -56,7 +45,6 @@ add-size c =
     let by-noise = size-of-noise s from at q (c .before .next-frame .ensures .1) in
     omega (arith, c .run-size .ensures, c .before .before .loop .inv .1, c .before .before .before .before .pre)
 
--- src/scan.rt:75:27
 end-size-requires : tie.Need-end-size-requires Inv-loop μ-loop
 end-size-requires c κs =
     let a = c .before .before .before .before .before .args in
@@ -66,7 +54,6 @@ end-size-requires c κs =
     let q = c .before .before .next-frame .ensures .0 in
     omega (arith, q .within, c .before .before .before .before .before .pre)
 
--- src/scan.rt:75:20
 add-result : tie.Need-add-result Inv-loop μ-loop
 add-result c =
     let a = c .before .before .before .before .before .before .args in
@@ -79,7 +66,6 @@ add-result c =
     let by-noise = size-of-noise s from at q (c .before .before .before .next-frame .ensures .1) in
     omega (arith, size-of-end s at (omega (arith, c .before .if1 .taken)), c .before .before .run-size .ensures, c .before .before .before .before .loop .inv .1, c .before .before .before .before .before .before .pre)
 
--- src/scan.rt:75:13
 returns : tie.Need-returns Inv-loop μ-loop
 returns c =
     let a = c .before .before .before .before .before .before .args in
@@ -90,7 +76,6 @@ returns c =
     let by-noise = size-of-noise s from at q (c .before .before .before .next-frame .ensures .1) in
     omega (arith, size-of-end s at (omega (arith, c .before .if1 .taken)), c .before .before .run-size .ensures, c .before .before .before .before .loop .inv .1)
 
--- src/scan.rt:77:27
 add-count : tie.Need-add-count Inv-loop μ-loop
 add-count c =
     let a = c .before .before .before .before .before .args in
@@ -100,7 +85,6 @@ add-count c =
     let q = c .before .before .next-frame .ensures .0 in
     omega (arith, q .within, c .before .before .before .before .before .pre)
 
--- src/scan.rt:77:21
 shared-slice-read-count : tie.Need-shared-slice-read-count Inv-loop μ-loop
 shared-slice-read-count c =
     let a = c .before .before .before .before .before .before .args in
@@ -113,7 +97,6 @@ shared-slice-read-count c =
     let whole : at + (getD s (at + 1) 0 + 4) ≤ length s = whole-inside s at h in
     omega arith
 
--- src/scan.rt:77:21
 cast-count : tie.Need-cast-count Inv-loop μ-loop
 cast-count c =
     let a = c .before .before .before .before .before .before .args in
@@ -123,7 +106,6 @@ cast-count c =
     let q = c .before .before .before .next-frame .ensures .0 in
     omega (arith, c .shared-slice-known2 .given (at + 1))
 
--- src/scan.rt:77:21
 add-count-2 : tie.Need-add-count-2 Inv-loop μ-loop
 add-count-2 c =
     let a = c .before .before .before .before .before .before .args in
@@ -133,7 +115,6 @@ add-count-2 c =
     let q = c .before .before .before .next-frame .ensures .0 in
     omega (arith, c .shared-slice-known2 .given (at + 1))
 
--- src/scan.rt:78:45
 add-frame-size : tie.Need-add-frame-size Inv-loop μ-loop
 add-frame-size c =
     let a = c .before .before .before .before .before .before .args in
@@ -143,7 +124,6 @@ add-frame-size c =
     let q = c .before .before .before .next-frame .ensures .0 in
     omega (arith, q .within, c .before .before .before .before .before .before .pre)
 
--- src/scan.rt:78:39
 shared-slice-read-frame-size : tie.Need-shared-slice-read-frame-size Inv-loop μ-loop
 shared-slice-read-frame-size c =
     let a = c .before .before .before .before .before .before .before .args in
@@ -156,7 +136,6 @@ shared-slice-read-frame-size c =
     let whole : at + (getD s (at + 1) 0 + 4) ≤ length s = whole-inside s at h in
     omega arith
 
--- src/scan.rt:78:39
 cast-frame-size : tie.Need-cast-frame-size Inv-loop μ-loop
 cast-frame-size c =
     let a = c .before .before .before .before .before .before .before .args in
@@ -166,7 +145,6 @@ cast-frame-size c =
     let q = c .before .before .before .before .next-frame .ensures .0 in
     omega (arith, c .shared-slice-known3 .given (at + 2))
 
--- src/scan.rt:78:17
 frame-size-requires : tie.Need-frame-size-requires Inv-loop μ-loop
 frame-size-requires c κs =
     let a = c .before .before .before .before .before .before .before .args in
@@ -176,7 +154,6 @@ frame-size-requires c κs =
     let q = c .before .before .before .before .next-frame .ensures .0 in
     omega (arith, q .within, c .before .before .before .before .before .before .before .pre, c .shared-slice-known3 .given (at + 1), c .shared-slice-known3 .given (at + 2))
 
--- src/scan.rt:78:9
 add-size-2 : tie.Need-add-size-2 Inv-loop μ-loop
 add-size-2 c =
     let a = c .before .before .before .before .before .before .before .before .args in
@@ -192,7 +169,6 @@ add-size-2 c =
     let by-noise = size-of-noise s from at q (c .before .before .before .before .before .next-frame .ensures .1) in
     omega (arith, size-of-frame s at h, c .frame-size .ensures, c .before .before .before .before .run-size .ensures, c .before .before .before .before .before .before .loop .inv .1, c .before .before .before .before .before .before .before .before .pre)
 
--- src/scan.rt:79:16
 add-from : tie.Need-add-from Inv-loop μ-loop
 add-from c =
     let a = c .before .before .before .before .before .before .before .before .args in
@@ -205,7 +181,6 @@ add-from c =
     let whole : at + (getD s (at + 1) 0 + 4) ≤ length s = whole-inside s at h in
     omega (arith, c .before .before .before .before .before .before .before .before .pre)
 
--- src/scan.rt:71:5
 loop-less : tie.Need-loop-less Inv-loop μ-loop
 loop-less c =
     let a = c .before .before .before .before .before .before .before .before .args in
@@ -218,7 +193,6 @@ loop-less c =
     let whole : at + (getD s (at + 1) 0 + 4) ≤ length s = whole-inside s at h in
     omega (arith, q .forward)
 
--- src/scan.rt:71:5
 loop-again : tie.Need-loop-again Inv-loop μ-loop
 loop-again c =
     let a = c .before .before .before .before .before .before .before .before .args in

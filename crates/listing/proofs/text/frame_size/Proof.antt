@@ -1,46 +1,36 @@
+use borrow.Author.Needs.{needs}
 use native.Mathlib.Omega.{arith}
 use Rattle.listing.proofs.Laws.Numbers.{at-most-four, frame-length}
-use borrow.Author.Needs.{needs}
 use Rattle.listing.proofs.text.frame_size.Statement.{statement}
 use Rattle.listing.proofs.text.frame_size.Tie as tie
-use Rattle.listing.proofs.text.frame_size.Reads as reads
-use Rattle.listing.proofs.text.frame_size.Lts as lts
-use Rattle.listing.proofs.decimal.digit_count.Reads as digit-count-reads
 
--- src/text.rt:34:5
 digit-count-requires : tie.Need-digit-count-requires
 digit-count-requires c κs = search needs
 
--- src/text.rt:34:27
 digit-count-requires-2 : tie.Need-digit-count-requires-2
 digit-count-requires-2 c κs = search needs
 
--- src/text.rt:34:5
 add-result : tie.Need-add-result
 add-result c =
     let a = c .before .before .args in
     let pre = c .before .before .pre in
     omega (arith, at-most-four (a .offset) (pre .0), at-most-four (a .count) (pre .1 .0), at-most-four (a .kind) (pre .1 .1))
 
--- src/text.rt:34:48
 digit-count-requires-3 : tie.Need-digit-count-requires-3
 digit-count-requires-3 c κs = search needs
 
--- src/text.rt:34:5
 add-result-2 : tie.Need-add-result-2
 add-result-2 c =
     let a = c .before .before .before .args in
     let pre = c .before .before .before .pre in
     omega (arith, at-most-four (a .offset) (pre .0), at-most-four (a .count) (pre .1 .0), at-most-four (a .kind) (pre .1 .1))
 
--- src/text.rt:34:5
 add-result-3 : tie.Need-add-result-3
 add-result-3 c =
     let a = c .before .before .before .args in
     let pre = c .before .before .before .pre in
     omega (arith, at-most-four (a .offset) (pre .0), at-most-four (a .count) (pre .1 .0), at-most-four (a .kind) (pre .1 .1))
 
--- src/text.rt:28:1
 returns : tie.Need-returns
 returns c =
     let a = c .before .before .before .args in

@@ -1,41 +1,32 @@
-use mathlib.Core.Path.{sym, ap, _∙_}
+use borrow.Author.Needs.{needs}
 use lib.ListN.{length}
+use mathlib.Core.Path.{sym, ap, _∙_}
 use native.Mathlib.Omega.{arith}
 use Rattle.listing.proofs.Laws.Numbers.{no-run, a-run, at-most-four, noise-length}
-use borrow.Author.Needs.{needs}
 use Rattle.listing.proofs.text.run_size.Statement.{statement}
 use Rattle.listing.proofs.text.run_size.Tie as tie
-use Rattle.listing.proofs.text.run_size.Reads as reads
-use Rattle.listing.proofs.text.run_size.Lts as lts
-use Rattle.listing.proofs.decimal.digit_count.Reads as digit-count-reads
 
--- src/text.rt:23:9
 returns : tie.Need-returns
 returns c = sym (ap length (no-run (c .before .args .offset) (c .before .args .count) (c .if1 .taken)))
 
--- src/text.rt:25:5
 digit-count-requires : tie.Need-digit-count-requires
 digit-count-requires c κs = search needs
 
--- src/text.rt:25:27
 digit-count-requires-2 : tie.Need-digit-count-requires-2
 digit-count-requires-2 c κs = search needs
 
--- src/text.rt:25:5
 add-result : tie.Need-add-result
 add-result c =
     let a = c .before .before .before .args in
     let pre = c .before .before .before .pre in
     omega (arith, at-most-four (a .offset) (pre .0), at-most-four (a .count) (pre .1))
 
--- src/text.rt:25:5
 add-result-2 : tie.Need-add-result-2
 add-result-2 c =
     let a = c .before .before .before .args in
     let pre = c .before .before .before .pre in
     omega (arith, at-most-four (a .offset) (pre .0), at-most-four (a .count) (pre .1))
 
--- src/text.rt:17:1
 returns-2 : tie.Need-returns-2
 returns-2 c =
     let a = c .before .before .before .args in
