@@ -17,7 +17,7 @@ ghost use Rattle.listing.specs.Parts.{Put, Quiet, Wrote, starts, rest, i
 const START: u8 = 0x5A;
 
 // A stretch of the capture, in bytes: what one chain of calls goes through, so that the stack stays small.
-const STRETCH: usize = 512;
+const STRETCH: usize = 128;
 
 fn is_frame(r: FrameRead) -> bool
     ensures { λ b. ⌜ b ≡ isAccepted (outcomeOf r) ⌝ }
