@@ -1,9 +1,10 @@
-use Prim.Native.Nat.{_+_, _-_, _*_}
-use Prim.Native.Nat.{ℕ, _<_}
+-- The cycle of calls {frame, noise}: the bytes that remain fall. Twice their count for `frame`, and one more for `noise`, which hands over where it stands.
+-- Each writes its own line, and what the other writes stands behind it.
+use Prim.Native.Nat.{ℕ, _+_, _-_, _*_, _<_}
 use borrow.Fn.Kinds.{In}
 use borrow.Fn.PlainCycle.{Measures, is, falls, and}
 use lib.ListN.{length, getD}
-use mathlib.Core.Path.{_≡_, sym, subst, _∙_}
+use mathlib.Core.Path.{_∙_}
 use native.Mathlib.Omega.{arith}
 use Rattle.listing.proofs.Laws.Output.{first-fits, next-fits}
 use Rattle.listing.proofs.Laws.Pieces.{noise-then, frame-then, whole-inside, wrote-part, wrote-next}
@@ -18,7 +19,7 @@ use Rattle.listing.proofs.scan.noise.Kinds as noise-kinds
 use Rattle.listing.proofs.scan.noise.Reads as noise
 use Rattle.listing.proofs.text.put_frame.Reads as put-frame-reads
 use Rattle.listing.proofs.text.put_run.Reads as put-run-reads
-use Rattle.listing.specs.Lines.{frame as frameLine, end}
+use Rattle.listing.specs.Lines.{frame as frameLine}
 use Rattle.listing.specs.Parts.{rest, runText}
 use Rattle.listing.specs.Text.{lineText}
 

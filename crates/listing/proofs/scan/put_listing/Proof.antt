@@ -1,3 +1,4 @@
+-- `scan::put_listing`: the listing up to an offset stands in the output, and each stretch goes further.
 use Prim.Native.Nat.{_-_}
 use lib.ListN.{length}
 use mathlib.Core.Path.{ap, _∙_}

@@ -1,3 +1,4 @@
+-- `scan::text_size`: the size so far and that of the rest are the size of the whole text. The measure is the count of bytes that remain.
 use Prim.Native.Nat.{ℕ, _+_, _-_, _*_, _<_, _≤_}
 use lib.ListN.{length, getD, drop}
 use mathlib.Core.Bool.{true}
