@@ -5,7 +5,7 @@ ghost use lib.ListN.{length};
 ghost use Rattle.listing.specs.Text.{number};
 ghost use Rattle.listing.specs.Parts.{Put};
 
-const ZERO: usize = 0x30;
+const ZERO: u32 = 0x30;
 
 // How many digits a number has.
 pub(crate) fn digit_count(n: usize) -> usize
@@ -24,30 +24,31 @@ pub(crate) fn digit_count(n: usize) -> usize
     4
 }
 
-// Writes a number from a place on, and answers the place behind it.
+// Writes a number from a place on, and answers the place behind it. In 32 bits a division by a constant costs less than in 64.
 pub(crate) fn put_number(n: usize, out: &mut [u8], at: usize) -> usize
     requires { ⌜ n < 10000 ⌝ }
     requires { ⌜ at + length (number n) ≤ length (now out) ⌝ }
     ensures { λ r. ⌜ Put at (number n) (now (out .entry)) (now (out .exit)) r ⌝ }
 {
-    if n < 10 {
-        out[at] = (ZERO + n) as u8;
+    let v = n as u32;
+    if v < 10 {
+        out[at] = (ZERO + v) as u8;
         return at + 1;
     }
-    if n < 100 {
-        out[at] = (ZERO + n / 10) as u8;
-        out[at + 1] = (ZERO + n % 10) as u8;
+    if v < 100 {
+        out[at] = (ZERO + v / 10) as u8;
+        out[at + 1] = (ZERO + v % 10) as u8;
         return at + 2;
     }
-    if n < 1000 {
-        out[at] = (ZERO + n / 100) as u8;
-        out[at + 1] = (ZERO + n / 10 % 10) as u8;
-        out[at + 2] = (ZERO + n % 10) as u8;
+    if v < 1000 {
+        out[at] = (ZERO + v / 100) as u8;
+        out[at + 1] = (ZERO + v / 10 % 10) as u8;
+        out[at + 2] = (ZERO + v % 10) as u8;
         return at + 3;
     }
-    out[at] = (ZERO + n / 1000) as u8;
-    out[at + 1] = (ZERO + n / 100 % 10) as u8;
-    out[at + 2] = (ZERO + n / 10 % 10) as u8;
-    out[at + 3] = (ZERO + n % 10) as u8;
+    out[at] = (ZERO + v / 1000) as u8;
+    out[at + 1] = (ZERO + v / 100 % 10) as u8;
+    out[at + 2] = (ZERO + v / 10 % 10) as u8;
+    out[at + 3] = (ZERO + v % 10) as u8;
     at + 4
 }

@@ -10,6 +10,9 @@ use Rattle.listing.proofs.decimal.put_number.Statement.{statement}
 use Rattle.listing.proofs.decimal.put_number.Tie as tie
 use Rattle.listing.specs.Text.{digit, number}
 
+cast-v : tie.Need-cast-v
+cast-v c = search needs
+
 add-out : tie.Need-add-out
 add-out c = search needs
 
@@ -170,6 +173,7 @@ pub put-number-spec : {M : Type 1} → statement M
 put-number-spec =
     tie.close
     (tie.spec
+    cast-v
     add-out
     cast-out
     slice-write-out
