@@ -1,13 +1,17 @@
 # make test   prove everything from nothing, then the tests from outside
 # make lib    the static library for C hosts, target/staticlib/libhost.a
 # make bench  speed beside plain C at -O3
+# make run    the listing of a capture: make run < FILE; of samples/line.capture where standard input is a terminal
+# make install PREFIX=..  the program capture, the library and its header
 CC = gcc
 CFLAGS = -std=c11 -O2 -Wall -Wextra -Werror -Iinclude
+PREFIX = /usr/local
 LIB = target/staticlib/libhost.a
+CAPTURE = target/bin/capture
 TESTS = $(patsubst tests/c/%.c,target/tests/%,$(wildcard tests/c/*.c))
 BENCHES = $(patsubst bench/%.c,target/bench/%,$(wildcard bench/*.c))
 
-.PHONY: test lib bench ctest clean
+.PHONY: test lib bench ctest run install clean
 
 test:
 	@tests/run
@@ -31,6 +35,18 @@ target/bench/%: bench/%.c bench/bench.h include/gateway.h $(LIB)
 
 bench: $(BENCHES)
 	@bench/run $(BENCHES)
+
+$(CAPTURE): crates.txt $(shell find crates -name '*.rt' -o -name '*.antt')
+	@rt check capture >&2 </dev/null
+	@touch $@
+
+run: $(CAPTURE)
+	@if [ -t 0 ]; then $(CAPTURE) <samples/line.capture; else $(CAPTURE); fi
+
+install: $(CAPTURE) $(LIB)
+	install -D -m 755 $(CAPTURE) $(DESTDIR)$(PREFIX)/bin/capture
+	install -D -m 644 $(LIB) $(DESTDIR)$(PREFIX)/lib/libgateway.a
+	install -D -m 644 include/gateway.h $(DESTDIR)$(PREFIX)/include/gateway.h
 
 clean:
 	rm -rf target

@@ -1,4 +1,5 @@
 // The C interface: a thin call over each public operation. include/gateway.h declares every function here.
+mod captures;
 mod cost;
 mod omnilink;
 mod omnistat2;

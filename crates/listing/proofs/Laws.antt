@@ -1,0 +1,7 @@
+pub mod Answers
+pub mod Faithful
+pub mod Frames
+pub mod Numbers
+pub mod Output
+pub mod Pieces
+pub mod Sizes

@@ -1,0 +1,59 @@
+-- Document 01, "The capture listing": the text of the lines, and what the listing answers.
+use Prim.Native.Nat.{ℕ, zero, suc, _+_, _-_, _*_, _/_, _%_}
+use mathlib.Core.Bool.{cond}
+use mathlib.Core.List.{List, [], _∷_, _++_}
+use lib.Dec.{ltb}
+use lib.ListN.{length}
+use Rattle.answer.specs.Answer.{Outcome, accepted, refuseIf}
+use Rattle.listing.specs.Lines.{Line, noise, frame, end, lines}
+
+-- the decimal digit of a number below 10
+abbrev pub digit : ℕ → ℕ
+digit n = 0x30 + n
+
+-- the last digits of a number, at most so many
+unfoldable pub digits : ℕ → ℕ → List ℕ
+digits zero n = []
+digits (suc most) n =
+    let longer = digits most (n / 10) ++ (digit (n % 10) ∷ []) in
+    cond (ltb n 10) (digit n ∷ []) longer
+
+-- a number in decimal, without leading zeros: n has no more than n + 1 digits
+unfoldable pub number : ℕ → List ℕ
+number n = digits (suc n) n
+
+-- the number that digits spell, behind those read already
+abbrev pub spelt : ℕ → List ℕ → ℕ
+spelt before [] = before
+spelt before (d ∷ ds) = spelt (before * 10 + (d - digit 0)) ds
+
+-- "noise ", "frame " and "end "
+abbrev pub noiseWord : List ℕ
+noiseWord = 0x6E ∷ 0x6F ∷ 0x69 ∷ 0x73 ∷ 0x65 ∷ 0x20 ∷ []
+
+abbrev pub frameWord : List ℕ
+frameWord = 0x66 ∷ 0x72 ∷ 0x61 ∷ 0x6D ∷ 0x65 ∷ 0x20 ∷ []
+
+abbrev pub endWord : List ℕ
+endWord = 0x65 ∷ 0x6E ∷ 0x64 ∷ 0x20 ∷ []
+
+abbrev pub space : ℕ
+space = 0x20
+
+abbrev pub lineFeed : ℕ
+lineFeed = 0x0A
+
+-- the text of a line: its word and its numbers, closed by one line feed
+unfoldable pub lineText : Line → List ℕ
+lineText (noise offset count) = noiseWord ++ (number offset ++ (space ∷ (number count ++ (lineFeed ∷ []))))
+lineText (frame offset count kind) =
+    frameWord ++ (number offset ++ (space ∷ (number count ++ (space ∷ (number kind ++ (lineFeed ∷ []))))))
+lineText (end offset) = endWord ++ (number offset ++ (lineFeed ∷ []))
+
+unfoldable pub text : List Line → List ℕ
+text [] = []
+text (l ∷ ls) = lineText l ++ text ls
+
+-- the listing of a capture: above 4,096 bytes is 3
+unfoldable pub listing : List ℕ → Outcome (List ℕ)
+listing s = refuseIf (ltb 4096 (length s)) 3 (accepted (text (lines s)))
