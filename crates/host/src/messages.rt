@@ -110,10 +110,13 @@ fn arming_bits(a: Arming) -> u8
 fn packed_zone(z: Zone) -> u64
     ensures { λ n. ⌜ n ≡ packed (accepted (zoneFields z)) ⌝ }
 {
+    let condition = z.condition;
+    let latched_alarm = z.latched_alarm;
+    let arming = z.arming;
     answer::pack_5_bytes(
-        condition_bits(z.condition),
-        latched_bits(z.latched_alarm),
-        arming_bits(z.arming),
+        condition_bits(condition),
+        latched_bits(latched_alarm),
+        arming_bits(arming),
         flag(z.unacknowledged_trouble),
         z.loop_reading,
     )
@@ -192,12 +195,7 @@ fn packed_command(c: Command) -> u64
         Command::Level { percent, unit } => answer::pack_3_bytes_word(9, 0, percent, unit),
         Command::Decrement { counter } => answer::pack_3_bytes_word(10, 0, 0, counter),
         Command::Increment { counter } => answer::pack_3_bytes_word(11, 0, 0, counter),
-        Command::SetCounter { value, counter } => answer::pack_3_bytes_word(
-            12,
-            0,
-            value,
-            counter,
-        ),
+        Command::SetCounter { value, counter } => answer::pack_3_bytes_word(12, 0, value, counter),
     }
 }
 
