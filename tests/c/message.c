@@ -463,6 +463,18 @@ static void writing(void)
     SAME(omnilink_message_write(0x06, NULL, 0, NULL, 0), 9);
 }
 
+/* The type is passed in a register: what stands above the byte must not matter. */
+static void upper_bits(void)
+{
+    uint64_t (*volatile write)(uint64_t, const uint8_t *, size_t, uint8_t *, size_t) =
+        (uint64_t (*)(uint64_t, const uint8_t *, size_t, uint8_t *, size_t))(void *)omnilink_message_write;
+    static const uint8_t acknowledge[5] = {0x5A, 0x01, 0x05, 0xC1, 0x93};
+    uint8_t out[5];
+    SAME(write(UINT64_C(0xFFFFFFFFFFFFFF05), NULL, 0, out, 5), 0x500);
+    CHECK(memcmp(out, acknowledge, 5) == 0);
+    SAME(write(UINT64_C(0x1234567890000107), NULL, 0, out, 5), 6);
+}
+
 int main(void)
 {
     types_and_lengths();
@@ -474,5 +486,6 @@ int main(void)
     text_messages();
     frame_refusals();
     writing();
+    upper_bits();
     return check_end();
 }
