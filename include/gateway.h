@@ -41,7 +41,39 @@ uint64_t omnilink_frame_read(const uint8_t *bytes, size_t len);
    Accepted: bytes written (16), len + 5; out past them stays. Refused: 3 more than 64 data bytes; 9 too little room. */
 uint64_t omnilink_frame_write(uint8_t type, const uint8_t *data, size_t len, uint8_t *out, size_t room);
 
-/* Omni-Link messages */
+/* Omni-Link messages: frames of the types 05, 06, 0D, 0E, 0F, 11, 13, 15, 16, 20, 21, 22, 23 and 25 (hex).
+
+   Every reader here takes a whole frame and refuses it as omnilink_frame_read does, then 6 an unknown type, 7 a length
+   that is wrong for the type, 8 a field outside its list. A reader of an item then refuses 6 a message of another type than
+   its own, and 8 an index or field past the last. Items count from 0. */
+
+/* Reads a message. Accepted: type (8), count of items (8): zones, events or text messages, and 0 for the other types. */
+uint64_t omnilink_message_read(const uint8_t *bytes, size_t len);
+
+/* Writes the message of a type and len data bytes to out, which has room bytes and does not overlap data.
+   Accepted: bytes written (16), len + 5; out past them stays. Refused: 6 unknown type; 7 length; 8 a field; 9 too little
+   room. */
+uint64_t omnilink_message_write(uint8_t type, const uint8_t *data, size_t len, uint8_t *out, size_t room);
+
+/* Zone i of a zone status (type 16). Accepted: condition (8: 0 secure, 1 not ready, 2 trouble), latched alarm (8: 0 secure,
+   1 tripped, 2 reset), arming (8: 0 disarmed, 1 armed, 2 bypassed by user, 3 bypassed by system), unacknowledged trouble
+   (8: 0 or 1), loop reading (8). */
+uint64_t omnilink_zone(const uint8_t *bytes, size_t len, size_t i);
+
+/* Event i of a list of events (type 23). Accepted: event (16). */
+uint64_t omnilink_event(const uint8_t *bytes, size_t len, size_t i);
+
+/* Text message i of a message status (type 25). Accepted: displayed (8: 0 or 1), not acknowledged (8: 0 or 1). */
+uint64_t omnilink_text_message(const uint8_t *bytes, size_t len, size_t i);
+
+/* The command of a command message (type 0F). Accepted: command (8: 0, 1, 2, 3, 9, 10, 11 or 12), unit of duration (8: 0
+   none, 1 seconds, 2 minutes, 3 hours), count (8), P2 (16). The unit is 0 but for commands 0 and 1. The count is that of
+   the duration for 0 and 1, the percent for 9, the value for 12, and 0 for the others. */
+uint64_t omnilink_command(const uint8_t *bytes, size_t len);
+
+/* A field of a log entry (type 0E). Accepted: the field (16). Fields: 0 number, 1 time-valid flag, 2 month, 3 day, 4 hour,
+   5 minute, 6 event type, 7 parameter 1, 8 parameter 2 as one word. */
+uint64_t omnilink_log_entry(const uint8_t *bytes, size_t len, size_t field);
 
 /* Omnistat2 messages */
 

@@ -1,0 +1,2 @@
+-- How values are packed for C.
+pub mod Messages
