@@ -1,0 +1,3 @@
+pub mod Decided
+pub mod Rules
+pub mod Table

@@ -1,0 +1,2 @@
+-- Document 01, "Registers and the model thermostat", in the paper's order.
+pub mod Registers
