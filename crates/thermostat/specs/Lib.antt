@@ -1,2 +1,3 @@
 -- Document 01, "Registers and the model thermostat", in the paper's order.
 pub mod Registers
+pub mod Temperature
