@@ -1,7 +1,9 @@
 pub mod Decided
 pub mod Fahrenheit
 pub mod Float
+pub mod Map
 pub mod Rules
 pub mod Setpoints
+pub mod Step
 pub mod Table
 pub mod Temperature

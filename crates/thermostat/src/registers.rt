@@ -1,7 +1,14 @@
 // Which registers are listed, which may be written, and the bytes that each takes.
 ghost use mathlib.Core.Path.{_≡_};
-ghost use Prim.Native.Nat.{_<_};
+ghost use Prim.Native.Nat.{_+_, _<_, _≤_};
+ghost use lib.ListN.{length};
 ghost use Rattle.thermostat.specs.Registers.{listed, settable, takes, listedFlag, writableFlag, lowOf, highOf, States};
+ghost use Rattle.thermostat.specs.Map.{run};
+ghost use Rattle.thermostat.specs.Step.{allSettable, allListed};
+use crate::tables::HIGH;
+use crate::tables::LISTED;
+use crate::tables::LOW;
+use crate::tables::WRITABLE;
 
 // The registers whose bytes are a list and no range: the energy price level, and the baud rate of the expansion.
 const PRICE_LEVEL: usize = 70;
@@ -89,4 +96,38 @@ pub(crate) fn is_settable(
         return false;
     }
     is_taken(low, high, r, v)
+}
+
+// Whether the registers from a start take these values, each listed and writable.
+pub(crate) fn are_settable(start: usize, values: &[u8]) -> bool
+    requires { ⌜ start + length (now values) ≤ 256 ⌝ }
+    ensures { λ b. ⌜ b ≡ allSettable start (now (values .entry)) ⌝ }
+{
+    let writable = WRITABLE;
+    let low = LOW;
+    let high = HIGH;
+    let mut i = 0;
+    while i < values.len() {
+        if !is_settable(&writable, &low, &high, start + i, values[i]) {
+            return false;
+        }
+        i += 1;
+    }
+    true
+}
+
+// Whether all of count registers from a start are listed.
+pub(crate) fn are_listed(start: usize, count: usize) -> bool
+    requires { ⌜ start + count ≤ 256 ⌝ }
+    ensures { λ b. ⌜ b ≡ allListed (run start count) ⌝ }
+{
+    let t = LISTED;
+    let mut i = 0;
+    while i < count {
+        if !is_listed(&t, start + i) {
+            return false;
+        }
+        i += 1;
+    }
+    true
 }

@@ -23,10 +23,10 @@ pub states : (f : ℕ → ℕ) (bytes : List ℕ) → T (stated f bytes) → Sta
 states f bytes t =
     record {
       entry =
-        λ r h.
-        eqb-true (getD bytes r 0) (f r)
-        (holds (eqb (getD bytes r 0) (f r))
-        (at (λ k x. eqb x (f k)) bytes (both-right (eqb (length bytes) 256) (every (λ k x. eqb x (f k)) 0 bytes) t) r (inside r h)))
+          λ r h.
+          eqb-true (getD bytes r 0) (f r)
+          (holds (eqb (getD bytes r 0) (f r))
+          (at (λ k x. eqb x (f k)) bytes (both-right (eqb (length bytes) 256) (every (λ k x. eqb x (f k)) 0 bytes) t) r (inside r h)));
     }
   where
     inside : (r : ℕ) → r < 256 → r < length bytes

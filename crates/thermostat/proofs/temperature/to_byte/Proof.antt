@@ -38,7 +38,6 @@ returns c =
     sym
     (one-byte x (subst T (sym (start .good .0 .1)) tt) n (c .before .before .if3 .taken) (ap (λ (y : Float). eq x y) (sym (c .before .celsius .ensures)) ∙ c .if4 .taken))
 
-
 -- src/temperature.rt:27:1
 returns-2 : tie.Need-returns-2
 returns-2 c =
