@@ -3,6 +3,7 @@ pub mod Fahrenheit
 pub mod Float
 pub mod Map
 pub mod Rules
+pub mod Set
 pub mod Setpoints
 pub mod Step
 pub mod Table

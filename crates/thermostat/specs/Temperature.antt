@@ -1,10 +1,12 @@
 -- Document 01, "Registers and the model thermostat": temperatures and setpoint pairs.
 use Prim.Native.Nat.{ℕ, zero, suc, _+_, _-_, _*_}
 use mathlib.Core.Bool.{Bool, cond}
+use mathlib.Core.List.{List, [], _∷_}
 use lib.Dec.{ltb}
 use lib.IntN.{ℤ, pos, _-ℤ_}
 use lib.Ieee.{Float, binary32, round, eq}
 use Rattle.answer.specs.Answer.{Outcome, refused, accepted, onAccepted, andThen, numberOf}
+use Rattle.answer.specs.Packed.{Field, byte}
 use Rattle.thermostat.specs.declared.temperature.Half.{Half}
 use Rattle.thermostat.specs.declared.temperature.Half.the-variants.{Byte, Refused as HalfRefused}
 use Rattle.thermostat.specs.declared.setpoints.Pair.{Pair as PairAnswer}
@@ -55,3 +57,7 @@ bytesOf cool heat = andThen (byteOf cool) (λ c. onAccepted (λ h. pair c h) (by
 abbrev pub pairOf : PairAnswer → Outcome Pair
 pairOf (Bytes cool heat) = accepted (pair cool heat)
 pairOf (PairRefused r) = refused (numberOf r)
+
+-- for C: cool byte, heat byte
+abbrev pub pairFields : Pair → List Field
+pairFields p = byte (p .cool) ∷ byte (p .heat) ∷ []

@@ -26,7 +26,7 @@ returns c =
     let old = a .out .now in
     let q = pollGroup (a .group) in
     let named = sentBy (a .own) m (addressed (a .first) q) in
-    let e = sym (c .before .is-heard .ensures) ∙ not-true (c .before .is-heard .result) (c  .if1 .taken) in
+    let e = sym (c .before .is-heard .ensures) ∙ not-true (c .before .is-heard .result) (c .if1 .taken) in
     let k = unheard (a .own) (a .first) m q e in
     (same-count [] named k (accepted 0) refl, same-left [] named k old old refl)
 

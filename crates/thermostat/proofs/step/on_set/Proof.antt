@@ -28,7 +28,7 @@ returns c =
     let old = a .out .now in
     let q = setFrom (a .start) (a .values .now) in
     let named = sentBy (a .own) m (addressed (a .first) q) in
-    let e = sym (c .before .is-heard .ensures) ∙ not-true (c .before .is-heard .result) (c  .if1 .taken) in
+    let e = sym (c .before .is-heard .ensures) ∙ not-true (c .before .is-heard .result) (c .if1 .taken) in
     let k = unheard (a .own) (a .first) m q e in
     (same-count [] named k (accepted 0) refl, (sym (unheard-map (a .own) (a .first) m q e), same-left [] named k old old refl))
 
