@@ -349,11 +349,18 @@ static float of_bits(uint32_t bits)
     return x;
 }
 
+static uint32_t bits_of_float(float x)
+{
+    uint32_t bits;
+    memcpy(&bits, &x, 4);
+    return bits;
+}
+
 /* What goes back, by the paper: twice the value is whole and from -80 to 175. */
 static int byte_of(float x)
 {
     double twice = (double)x * 2.0;
-    if (!(twice >= -80.0 && twice <= 175.0) || twice != floor(twice)) {
+    if (!(twice >= -80.0 && twice <= 175.0) || twice != (double)(int)twice) {
         return -1;
     }
     return (int)twice + 80;
@@ -382,8 +389,8 @@ static void backwards(void)
     /* every float beside a half degree */
     for (int n = 0; n < 256; n++) {
         float x = (float)(n / 2.0 - 40.0);
-        back(nextafterf(x, -1000.0f));
-        back(nextafterf(x, 1000.0f));
+        back(of_bits(bits_of_float(x) - 1));
+        back(of_bits(bits_of_float(x) + 1));
         back(x + 0.25f);
     }
 }
