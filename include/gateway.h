@@ -97,6 +97,32 @@ uint64_t omnistat_write_to_host(uint8_t number, uint8_t type, const uint8_t *dat
 
 /* The model thermostat, temperatures and setpoints */
 
+/* A step of the model thermostat with the address own: takes a message of len bytes, changes the map, and writes the reply
+   to out. The map has 256 bytes, one for each register; out has room for at least 18 and overlaps neither the map nor the
+   message. Accepted: bytes written (16), 0 where nothing is sent: a broadcast, or a message for another address.
+   Refused, with map and out unchanged: 9 room under 18, or map_len not 256; 8 own outside 1 to 127; then what
+   omnistat_read_at_thermostat refuses. A register that is unlisted, read only or out of range gets a negative reply. */
+uint64_t thermostat_step(uint8_t own, uint8_t *map, size_t map_len, const uint8_t *bytes, size_t len, uint8_t *out, size_t room);
+
+/* A temperature byte in degrees Celsius, exactly byte/2 - 40. */
+float temperature_celsius(uint8_t byte);
+
+/* A temperature byte in tenths of a degree Fahrenheit, 9 * byte - 400. */
+int32_t temperature_fahrenheit_tenths(uint8_t byte);
+
+/* A setpoint pair in degrees Celsius. */
+struct setpoints {
+    float cool;
+    float heat;
+};
+
+/* The setpoint pair of two temperature bytes. */
+struct setpoints setpoints_from_bytes(uint8_t cool, uint8_t heat);
+
+/* The two bytes of a setpoint pair: cool byte (8), heat byte (8). Refused 8 unless both values are exact half degrees from
+   -40 to 87.5; minus zero counts as zero. */
+uint64_t setpoints_to_bytes(struct setpoints pair);
+
 /* Cost */
 
 /* The tally: the exact sum of the accepted cost words, in millionths. It starts at 0. */

@@ -2,6 +2,7 @@
 mod captures;
 mod cost;
 mod messages;
+mod model;
 mod omnilink;
 mod omnistat2;
 mod patterns;

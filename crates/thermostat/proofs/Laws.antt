@@ -1,0 +1,10 @@
+pub mod Decided
+pub mod Fahrenheit
+pub mod Float
+pub mod Map
+pub mod Rules
+pub mod Set
+pub mod Setpoints
+pub mod Step
+pub mod Table
+pub mod Temperature

@@ -1,0 +1,244 @@
+use mathlib.Core.Path.{refl, sym, ap, _∙_}
+use mathlib.Core.List.{List}
+use Prim.Native.Nat.{ℕ}
+use lib.ListN.{length}
+use Rattle.answer.specs.Answer.{accepted, numberOf}
+use Rattle.omnistat.specs.declared.frame.End.the-variants.{Thermostat}
+use Rattle.omnistat.specs.Message.{poll, setFrom, pollGroup}
+use Rattle.omnistat.specs.Omnistat.{addressed, read}
+use Rattle.omnistat.specs.Answer.{requestOf, onMessage, countedRequest}
+use Rattle.omnistat.proofs.Laws.Outcome.{still-refused}
+use Rattle.omnistat.proofs.Laws.Heard.{request-read}
+use Rattle.thermostat.specs.Step.{step}
+use Rattle.thermostat.proofs.Laws.Step.{too-little-room, wrong-map, address-too-low, address-too-high, reader-refuses, stepped, when-refused, when-done, only-sets, poll-read, set-read}
+use borrow.Author.Needs.{needs}
+use Rattle.thermostat.proofs.step.step.Statement.{statement}
+use Rattle.thermostat.proofs.step.step.Tie as tie
+use Rattle.thermostat.proofs.step.step.Reads as reads
+use Rattle.thermostat.proofs.step.step.Lts as lts
+use Rattle.omnistat.proofs.request.read.Reads as read-reads
+use Rattle.omnistat.proofs.request.values.Reads as values-reads
+use Rattle.thermostat.proofs.step.on_group.Reads as on-group-reads
+use Rattle.thermostat.proofs.step.on_poll.Reads as on-poll-reads
+use Rattle.thermostat.proofs.step.on_set.Reads as on-set-reads
+
+-- src/step.rt:225:9
+returns : tie.Need-returns
+returns c =
+    let a = c .before .before .before .before .args in
+    let m = a .map .now in
+    let s = a .bytes .now in
+    let old = a .out .now in
+    let o = step (a .own) m s (length old) in
+    when-refused o 9 m old (too-little-room (a .own) m s (length old) (c .if1 .taken))
+
+-- src/step.rt:228:9
+returns-2 : tie.Need-returns-2
+returns-2 c =
+    let a = c .before .before .before .before .before .args in
+    let m = a .map .now in
+    let s = a .bytes .now in
+    let old = a .out .now in
+    let o = step (a .own) m s (length old) in
+    when-refused o 9 m old (wrong-map (a .own) m s (length old) (c .before .if1 .left) (c .if2 .taken))
+
+-- src/step.rt:231:9
+returns-3 : tie.Need-returns-3
+returns-3 c =
+    let a = c .before .before .before .before .before .before .args in
+    let m = a .map .now in
+    let s = a .bytes .now in
+    let old = a .out .now in
+    let o = step (a .own) m s (length old) in
+    when-refused o 8 m old (address-too-low (a .own) m s (length old) (c .before .before .if1 .left) (c .before .if2 .left) (c .if3 .taken))
+
+-- src/step.rt:234:9
+returns-4 : tie.Need-returns-4
+returns-4 c =
+    let a = c .before .before .before .before .before .before .before .args in
+    let m = a .map .now in
+    let s = a .bytes .now in
+    let old = a .out .now in
+    let o = step (a .own) m s (length old) in
+    when-refused o 8 m old (address-too-high (a .own) m s (length old) (c .before .before .before .if1 .left) (c .before .before .if2 .left) (c .if4 .taken))
+
+-- src/step.rt:236:11
+read-requires : tie.Need-read-requires
+read-requires c κs = search needs
+
+-- src/step.rt:237:26
+enum-known-r : tie.Need-enum-known-r
+enum-known-r c = search needs
+
+-- src/step.rt:239:13
+enum-known-first : tie.Need-enum-known-first
+enum-known-first c = search needs
+
+-- src/step.rt:242:14
+on-poll-requires : tie.Need-on-poll-requires
+on-poll-requires c κs =
+    let s = c .before .before .before .before .before .before .before .before .before .before .before .before .before .args .bytes .now in
+    let given = c .before .before .before .first .given in
+    let first = given .0 .0 in
+    let start = given .0 .1 .0 in
+    let count = given .0 .1 .1 .0 in
+    let e = sym (ap requestOf (given .1)) ∙ c .before .before .before .before .before .read .ensures in
+    let p = poll-read s first start count (request-read s first (poll start count) e) in
+    ((c .before .before .before .before .before .before .before .if3 .left, c .before .before .before .before .before .before .if4 .left), (c .before .before .before .before .before .before .before .before .before .if1 .left, (c .before .before .before .before .before .before .before .before .if2 .left, p)))
+
+-- src/step.rt:244:13
+enum-known-first-2 : tie.Need-enum-known-first-2
+enum-known-first-2 c = search needs
+
+-- src/step.rt:252:13
+values-requires : tie.Need-values-requires
+values-requires c κs = search needs
+
+-- src/step.rt:247:14
+on-set-requires : tie.Need-on-set-requires
+on-set-requires c κs =
+    let s = c .before .before .before .before .before .before .before .before .before .before .before .before .before .before .args .bytes .now in
+    let given = c .before .before .before .before .first2 .given in
+    let first = given .0 .0 in
+    let start = given .0 .1 .0 in
+    let count = given .0 .1 .1 .0 in
+    let e = sym (ap requestOf (given .1)) ∙ c .before .before .before .before .before .before .read .ensures in
+    let v = c .before .values .result .now in
+    let r =
+    request-read s first (setFrom start count) e
+    ∙ ap (λ (x : List ℕ). accepted (addressed first (setFrom start x))) (sym (c .before .values .ensures)) in
+    ((c .before .before .before .before .before .before .before .before .if3 .left, c .before .before .before .before .before .before .before .if4 .left), (c .before .before .before .before .before .before .before .before .before .before .if1 .left, (c .before .before .before .before .before .before .before .before .before .if2 .left, set-read s first start v r)))
+
+-- src/step.rt:255:30
+enum-known-first-3 : tie.Need-enum-known-first-3
+enum-known-first-3 c = search needs
+
+-- src/step.rt:255:48
+on-group-requires : tie.Need-on-group-requires
+on-group-requires c κs = search needs
+
+-- src/step.rt:219:1
+returns-5 : tie.Need-returns-5
+returns-5 c =
+    let a = c .before .before .before .before .before .before .before .before .before .before .before .args in
+    let m = a .map .now in
+    let s = a .bytes .now in
+    let old = a .out .now in
+    let o = step (a .own) m s (length old) in
+    let n = numberOf (c .before .r .given .0 .0) in
+    let e = sym (c .before .before .before .read .ensures) ∙ ap requestOf (c .before .r .given .1) in
+    when-refused o n m old
+    (reader-refuses (a .own) m s (length old) (c .before .before .before .before .before .before .before .if1 .left) (c .before .before .before .before .before .before .if2 .left) (c .before .before .before .before .before .if3 .left) (c .before .before .before .before .if4 .left) n
+    (still-refused (onMessage countedRequest) (read Thermostat s) n e))
+
+-- src/step.rt:219:1
+same-length : tie.Need-same-length
+same-length c = search needs
+
+-- src/step.rt:219:1
+same-length-2 : tie.Need-same-length-2
+same-length-2 c = search needs
+
+-- src/step.rt:219:1
+returns-6 : tie.Need-returns-6
+returns-6 c =
+    let a = c .before .before .before .before .before .before .before .before .before .before .before .before .before .before .before .before .args in
+    let m = a .map .now in
+    let s = a .bytes .now in
+    let old = a .out .now in
+    let o = step (a .own) m s (length old) in
+    let given = c .before .before .before .before .before .before .first .given in
+    let first = given .0 .0 in
+    let start = given .0 .1 .0 in
+    let count = given .0 .1 .1 .0 in
+    let e = sym (ap requestOf (given .1)) ∙ c .before .before .before .before .before .before .before .before .read .ensures in
+    let q = addressed first (poll start count) in
+    let call = c .before .before .on-poll in
+    when-done o (a .own) q _ m m old _
+    (stepped (a .own) m s (length old) (c .before .before .before .before .before .before .before .before .before .before .before .before .if1 .left) (c .before .before .before .before .before .before .before .before .before .before .before .if2 .left) (c .before .before .before .before .before .before .before .before .before .before .if3 .left) (c .before .before .before .before .before .before .before .before .before .if4 .left) q (request-read s first (poll start count) e))
+    (call .ensures .0) (only-sets (a .own) m first (poll start count) refl) (call .ensures .1)
+
+-- src/step.rt:219:1
+same-length-3 : tie.Need-same-length-3
+same-length-3 c = search needs
+
+-- src/step.rt:219:1
+same-length-4 : tie.Need-same-length-4
+same-length-4 c = search needs
+
+-- src/step.rt:219:1
+returns-7 : tie.Need-returns-7
+returns-7 c =
+    let a = c .before .before .before .before .before .before .before .before .before .before .before .before .before .before .before .before .before .before .before .args in
+    let m = a .map .now in
+    let s = a .bytes .now in
+    let old = a .out .now in
+    let o = step (a .own) m s (length old) in
+    let given = c .before .before .before .before .before .before .before .before .before .first2 .given in
+    let first = given .0 .0 in
+    let start = given .0 .1 .0 in
+    let count = given .0 .1 .1 .0 in
+    let e = sym (ap requestOf (given .1)) ∙ c .before .before .before .before .before .before .before .before .before .before .before .read .ensures in
+    let v = c .before .before .before .before .before .before .values .result .now in
+    let q = addressed first (setFrom start v) in
+    let r =
+    request-read s first (setFrom start count) e
+    ∙ ap (λ (x : List ℕ). accepted (addressed first (setFrom start x))) (sym (c .before .before .before .before .before .before .values .ensures)) in
+    let call = c .before .before .before .before .on-set in
+    when-done o (a .own) q _ m _ old _
+    (stepped (a .own) m s (length old) (c .before .before .before .before .before .before .before .before .before .before .before .before .before .before .before .if1 .left) (c .before .before .before .before .before .before .before .before .before .before .before .before .before .before .if2 .left) (c .before .before .before .before .before .before .before .before .before .before .before .before .before .if3 .left) (c .before .before .before .before .before .before .before .before .before .before .before .before .if4 .left) q r)
+    (call .ensures .0) (call .ensures .1 .0) (call .ensures .1 .1)
+
+-- src/step.rt:219:1
+same-length-5 : tie.Need-same-length-5
+same-length-5 c = search needs
+
+-- src/step.rt:219:1
+same-length-6 : tie.Need-same-length-6
+same-length-6 c = search needs
+
+-- src/step.rt:219:1
+returns-8 : tie.Need-returns-8
+returns-8 c =
+    let a = c .before .before .before .before .before .before .before .before .before .before .before .before .before .before .before .before .args in
+    let m = a .map .now in
+    let s = a .bytes .now in
+    let old = a .out .now in
+    let o = step (a .own) m s (length old) in
+    let given = c .before .before .before .before .before .before .first3 .given in
+    let first = given .0 .0 in
+    let g = given .0 .1 .0 in
+    let e = sym (ap requestOf (given .1)) ∙ c .before .before .before .before .before .before .before .before .read .ensures in
+    let q = addressed first (pollGroup g) in
+    let call = c .before .before .on-group in
+    when-done o (a .own) q _ m m old _
+    (stepped (a .own) m s (length old) (c .before .before .before .before .before .before .before .before .before .before .before .before .if1 .left) (c .before .before .before .before .before .before .before .before .before .before .before .if2 .left) (c .before .before .before .before .before .before .before .before .before .before .if3 .left) (c .before .before .before .before .before .before .before .before .before .if4 .left) q (request-read s first (pollGroup g) e))
+    (call .ensures .0) (only-sets (a .own) m first (pollGroup g) refl) (call .ensures .1)
+
+pub step-spec : {M : Type 1} → statement M
+step-spec =
+    tie.close
+    (tie.spec
+    returns
+    returns-2
+    returns-3
+    returns-4
+    read-requires
+    enum-known-r
+    enum-known-first
+    on-poll-requires
+    enum-known-first-2
+    values-requires
+    on-set-requires
+    enum-known-first-3
+    on-group-requires
+    returns-5
+    same-length
+    same-length-2
+    returns-6
+    same-length-3
+    same-length-4
+    returns-7
+    same-length-5
+    same-length-6
+    returns-8)
