@@ -1,12 +1,12 @@
 # make test   prove everything from nothing, then the tests from outside
-# make lib    the static library for C hosts, target/staticlib/libhost.a
+# make lib    the static library for C hosts, target/libgateway.a
 # make bench  speed beside plain C at -O3
 # make run    the listing of a capture: make run < FILE; of samples/line.capture where standard input is a terminal
 # make install PREFIX=..  the program capture, the library and its header
 CC = gcc
 CFLAGS = -std=c11 -O2 -Wall -Wextra -Werror -Iinclude
 PREFIX = /usr/local
-LIB = target/staticlib/libhost.a
+LIB = target/libgateway.a
 CAPTURE = target/bin/capture
 TESTS = $(patsubst tests/c/%.c,target/tests/%,$(wildcard tests/c/*.c))
 BENCHES = $(patsubst bench/%.c,target/bench/%,$(wildcard bench/*.c))
@@ -21,7 +21,7 @@ lib: $(LIB)
 $(LIB): crates.txt $(shell find crates -name '*.rt' -o -name '*.antt')
 	@mkdir -p target
 	@rt staticlib host > target/staticlib.log 2>&1 || { cat target/staticlib.log; exit 1; }
-	@touch $@
+	@cp target/staticlib/libhost.a $@
 
 ctest: $(TESTS)
 

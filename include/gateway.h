@@ -30,6 +30,30 @@ enum gateway_answer {
     GATEWAY_TOTAL = 11        /* the total would pass 2^64 - 1 */
 };
 
+/* The answer number. */
+static inline unsigned gateway_number(uint64_t answer)
+{
+    return (unsigned)(answer & 0xFF);
+}
+
+/* Everything above the answer number: a count of bytes written, or a cost. */
+static inline uint64_t gateway_value(uint64_t answer)
+{
+    return answer >> 8;
+}
+
+/* The 8 bits that start i bytes above the answer number. A frame read has its type at 0 and its count of data bytes at 1. */
+static inline uint8_t gateway_byte(uint64_t answer, unsigned i)
+{
+    return (uint8_t)(answer >> 8 >> 8 * i);
+}
+
+/* The 16 bits that start i bytes above the answer number. A command has its P2 at 3. */
+static inline uint16_t gateway_word(uint64_t answer, unsigned i)
+{
+    return (uint16_t)(answer >> 8 >> 8 * i);
+}
+
 /* Omni-Link frames: 5A, length L (01 to 41 hex), type byte, L-1 data bytes, CRC low byte, CRC high byte. */
 
 /* Reads a whole frame of any type.
