@@ -1,37 +1,27 @@
+use borrow.Author.Needs.{needs}
 use mathlib.Core.Path.{sym, ap, _∙_}
 use Rattle.answer.specs.Answer.{onAccepted}
 use Rattle.answer.specs.Packed.{packed}
-use Rattle.thermostat.specs.declared.setpoints.Pair.{Pair}
-use Rattle.thermostat.specs.Temperature.{pairOf, pairFields}
-use borrow.Author.Needs.{needs}
 use Rattle.host.proofs.model.pack_pair.Statement.{statement}
 use Rattle.host.proofs.model.pack_pair.Tie as tie
-use Rattle.host.proofs.model.pack_pair.Reads as reads
-use Rattle.host.proofs.model.pack_pair.Lts as lts
-use Rattle.answer.proofs.pack_2_bytes.Reads as pack-2-bytes-reads
-use Rattle.answer.proofs.pack_refusal.Reads as pack-refusal-reads
+use Rattle.thermostat.specs.Temperature.{pairOf, pairFields}
+use Rattle.thermostat.specs.declared.setpoints.Pair.{Pair}
 
--- src/model.rt:51:23
 enum-known-p : tie.Need-enum-known-p
 enum-known-p c = search needs
 
--- src/model.rt:51:29
 pack-refusal-requires : tie.Need-pack-refusal-requires
 pack-refusal-requires c κs = search needs
 
--- src/model.rt:52:23
 enum-known-p-2 : tie.Need-enum-known-p-2
 enum-known-p-2 c = search needs
 
--- src/model.rt:52:39
 pack-2-bytes-requires : tie.Need-pack-2-bytes-requires
 pack-2-bytes-requires c κs = search needs
 
--- src/model.rt:47:1
 returns : tie.Need-returns
 returns c = search needs
 
--- src/model.rt:47:1
 returns-2 : tie.Need-returns-2
 returns-2 c = c .pack-2-bytes .ensures ∙ ap (λ (p : Pair). packed (onAccepted pairFields (pairOf p))) (sym (c .before .before .p2 .given .1))
 

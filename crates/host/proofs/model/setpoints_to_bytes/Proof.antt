@@ -1,24 +1,17 @@
+use borrow.Author.Needs.{needs}
 use mathlib.Core.Path.{ap, _∙_}
 use Rattle.answer.specs.Answer.{Outcome, onAccepted}
 use Rattle.answer.specs.Packed.{packed}
-use Rattle.thermostat.specs.Temperature.{Pair, pairFields}
-use borrow.Author.Needs.{needs}
 use Rattle.host.proofs.model.setpoints_to_bytes.Statement.{statement}
 use Rattle.host.proofs.model.setpoints_to_bytes.Tie as tie
-use Rattle.host.proofs.model.setpoints_to_bytes.Reads as reads
-use Rattle.host.proofs.model.setpoints_to_bytes.Lts as lts
-use Rattle.host.proofs.model.pack_pair.Reads as pack-pair-reads
-use Rattle.thermostat.proofs.setpoints.to_bytes.Reads as to-bytes-reads
+use Rattle.thermostat.specs.Temperature.{Pair, pairFields}
 
--- src/model.rt:61:15
 to-bytes-requires : tie.Need-to-bytes-requires
 to-bytes-requires c κs = search needs
 
--- src/model.rt:61:5
 pack-pair-requires : tie.Need-pack-pair-requires
 pack-pair-requires c κs = search needs
 
--- src/model.rt:57:1
 returns : tie.Need-returns
 returns c = c .pack-pair .ensures ∙ ap (λ (o : Outcome Pair). packed (onAccepted pairFields o)) (c .before .to-bytes .ensures)
 

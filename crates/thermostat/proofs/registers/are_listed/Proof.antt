@@ -1,19 +1,16 @@
-use borrow.Author.Tests.{not-true, not-false}
-use mathlib.Core.Path.{_≡_, refl, sym, ap, _∙_}
 use Prim.Native.Nat.{ℕ, _+_, _-_, _<_, _≤_, zero-le}
-use native.Mathlib.Omega.{arith}
 use borrow.Author.Needs.{needs}
+use borrow.Author.Tests.{not-true, not-false}
 use lib.ListN.{length, getD, take, drop, set}
-use Rattle.thermostat.specs.Registers.{listed, listedFlag, States}
-use Rattle.thermostat.specs.Map.{run}
-use Rattle.thermostat.specs.Step.{allListed}
-use Rattle.thermostat.proofs.Laws.Rules.{states}
+use mathlib.Core.Path.{_≡_, refl, sym, ap, _∙_}
+use native.Mathlib.Omega.{arith}
 use Rattle.thermostat.proofs.Laws.Map.{listed-begun, listed-next, listed-ended, one-fails, one-holds}
+use Rattle.thermostat.proofs.Laws.Rules.{states}
 use Rattle.thermostat.proofs.registers.are_listed.Statement.{statement}
 use Rattle.thermostat.proofs.registers.are_listed.Tie as tie
-use Rattle.thermostat.proofs.registers.are_listed.Reads as reads
-use Rattle.thermostat.proofs.registers.are_listed.Lts as lts
-use Rattle.thermostat.proofs.registers.is_listed.Reads as is-listed-reads
+use Rattle.thermostat.specs.Map.{run}
+use Rattle.thermostat.specs.Registers.{listed, listedFlag, States}
+use Rattle.thermostat.specs.Step.{allListed}
 
 abbrev Inv-loop : tie.InvT-loop
 Inv-loop start count t i₀ i =
@@ -22,20 +19,16 @@ Inv-loop start count t i₀ i =
 abbrev μ-loop : tie.MeasureT-loop
 μ-loop start count t i₀ i = count - i
 
--- src/registers.rt:126:5
 loop-holds : tie.Need-loop-holds Inv-loop μ-loop
 unfolding listed
 loop-holds c = (states listedFlag _ tt, zero-le, listed-begun (c .args .start) (c .args .count) 0)
 
--- src/registers.rt:127:27
 add-is-listed : tie.Need-add-is-listed Inv-loop μ-loop
 add-is-listed c = search needs
 
--- src/registers.rt:127:13
 is-listed-requires : tie.Need-is-listed-requires Inv-loop μ-loop
 is-listed-requires c κs = (c .before .before .loop .inv .0, omega arith)
 
--- src/registers.rt:128:13
 returns : tie.Need-returns Inv-loop μ-loop
 returns c =
     let at = c .before .before .before .before in
@@ -46,15 +39,12 @@ returns c =
     ∙ listed-next (a .start) (a .count) i (c .before .before .before .loop-test .taken)
     ∙ one-fails (listed (a .start + i)) (allListed (run (a .start + (i + 1)) (a .count - (i + 1)))) (sym (c .before .is-listed .ensures) ∙ not-true (c .before .is-listed .result) (c .if1 .taken)))
 
--- src/registers.rt:130:9
 add-i : tie.Need-add-i Inv-loop μ-loop
 add-i c = search needs
 
--- src/registers.rt:126:5
 loop-less : tie.Need-loop-less Inv-loop μ-loop
 loop-less c = search needs
 
--- src/registers.rt:126:5
 loop-again : tie.Need-loop-again Inv-loop μ-loop
 loop-again c =
     let at = c .before .before .before .before in
@@ -67,7 +57,6 @@ loop-again c =
           ∙ one-holds (listed (a .start + i)) (allListed (run (a .start + (i + 1)) (a .count - (i + 1)))) (sym (c .before .is-listed .ensures) ∙ not-false (c .before .is-listed .result) (c .if1 .left)),
     )
 
--- src/registers.rt:120:1
 returns-2 : tie.Need-returns-2 Inv-loop μ-loop
 returns-2 c =
     let at = c .before in

@@ -1,18 +1,15 @@
-use borrow.Author.Tests.{not-true, not-false}
-use mathlib.Core.Path.{_≡_, refl, sym, ap, _∙_}
 use Prim.Native.Nat.{ℕ, _+_, _-_, _<_, _≤_, zero-le}
-use native.Mathlib.Omega.{arith}
 use borrow.Author.Needs.{needs}
+use borrow.Author.Tests.{not-true, not-false}
 use lib.ListN.{length, getD, take, drop, set}
-use Rattle.thermostat.specs.Registers.{listed, readOnly, allowed, settable, writableFlag, lowOf, highOf, States}
-use Rattle.thermostat.specs.Step.{allSettable}
-use Rattle.thermostat.proofs.Laws.Rules.{states}
+use mathlib.Core.Path.{_≡_, refl, sym, ap, _∙_}
+use native.Mathlib.Omega.{arith}
 use Rattle.thermostat.proofs.Laws.Map.{settable-begun, settable-next, settable-ended, one-fails, one-holds}
+use Rattle.thermostat.proofs.Laws.Rules.{states}
 use Rattle.thermostat.proofs.registers.are_settable.Statement.{statement}
 use Rattle.thermostat.proofs.registers.are_settable.Tie as tie
-use Rattle.thermostat.proofs.registers.are_settable.Reads as reads
-use Rattle.thermostat.proofs.registers.are_settable.Lts as lts
-use Rattle.thermostat.proofs.registers.is_settable.Reads as is-settable-reads
+use Rattle.thermostat.specs.Registers.{listed, readOnly, allowed, settable, writableFlag, lowOf, highOf, States}
+use Rattle.thermostat.specs.Step.{allSettable}
 
 abbrev Inv-loop : tie.InvT-loop
 Inv-loop start values writable low high i₀ i =
@@ -25,26 +22,21 @@ Inv-loop start values writable low high i₀ i =
 abbrev μ-loop : tie.MeasureT-loop
 μ-loop start values writable low high i₀ i = length values - i
 
--- src/registers.rt:110:5
 loop-holds : tie.Need-loop-holds Inv-loop μ-loop
 unfolding listed readOnly allowed
 loop-holds c = (states writableFlag _ tt, states lowOf _ tt, states highOf _ tt, zero-le, settable-begun (c .before .args .start) (c .before .args .values .now) 0)
 
--- src/registers.rt:111:49
 add-is-settable : tie.Need-add-is-settable Inv-loop μ-loop
 add-is-settable c = search needs
 
--- src/registers.rt:111:60
 shared-slice-read-is-settable : tie.Need-shared-slice-read-is-settable Inv-loop μ-loop
 shared-slice-read-is-settable c = search needs
 
--- src/registers.rt:111:13
 is-settable-requires : tie.Need-is-settable-requires Inv-loop μ-loop
 is-settable-requires c κs =
     let at = c .before .before .before .before .before in
     (at .loop .inv .0, (at .loop .inv .1, (at .loop .inv .2, omega arith)))
 
--- src/registers.rt:112:13
 returns : tie.Need-returns Inv-loop μ-loop
 returns c =
     let at = c .before .before .before .before .before .before .before in
@@ -56,15 +48,12 @@ returns c =
     ∙ settable-next (a .start) s i (c .before .before .before .before .before .before .loop-test .taken)
     ∙ one-fails (settable (a .start + i) (getD s i 0)) (allSettable (a .start + (i + 1)) (drop (i + 1) s)) (sym (c .before .is-settable .ensures) ∙ not-true (c .before .is-settable .result) (c .if1 .taken)))
 
--- src/registers.rt:114:9
 add-i : tie.Need-add-i Inv-loop μ-loop
 add-i c = search needs
 
--- src/registers.rt:110:5
 loop-less : tie.Need-loop-less Inv-loop μ-loop
 loop-less c = search needs
 
--- src/registers.rt:110:5
 loop-again : tie.Need-loop-again Inv-loop μ-loop
 loop-again c =
     let at = c .before .before .before .before .before .before .before in
@@ -80,7 +69,6 @@ loop-again c =
           ∙ one-holds (settable (a .start + i) (getD s i 0)) (allSettable (a .start + (i + 1)) (drop (i + 1) s)) (sym (c .before .is-settable .ensures) ∙ not-false (c .before .is-settable .result) (c .if1 .left)),
     )
 
--- src/registers.rt:102:1
 returns-2 : tie.Need-returns-2 Inv-loop μ-loop
 returns-2 c =
     let at = c .before in

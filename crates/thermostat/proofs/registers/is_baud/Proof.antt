@@ -1,28 +1,21 @@
-use mathlib.Core.Path.{sym}
 use borrow.Author.Tests.{eq-eqb, ne-eqb}
+use mathlib.Core.Path.{sym}
 use Rattle.thermostat.proofs.Laws.Rules.{bauds, last-baud}
 use Rattle.thermostat.proofs.registers.is_baud.Statement.{statement}
 use Rattle.thermostat.proofs.registers.is_baud.Tie as tie
-use Rattle.thermostat.proofs.registers.is_baud.Reads as reads
-use Rattle.thermostat.proofs.registers.is_baud.Lts as lts
 
--- src/registers.rt:41:9
 returns : tie.Need-returns
 returns c = simp (bauds, eq-eqb _ 0 (c .if1 .taken))
 
--- src/registers.rt:44:9
 returns-2 : tie.Need-returns-2
 returns-2 c = simp (bauds, ne-eqb _ 0 (c .before .if1 .left), eq-eqb _ 1 (c .if2 .taken))
 
--- src/registers.rt:47:9
 returns-3 : tie.Need-returns-3
 returns-3 c = simp (bauds, ne-eqb _ 0 (c .before .before .if1 .left), ne-eqb _ 1 (c .before .if2 .left), eq-eqb _ 42 (c .if3 .taken))
 
--- src/registers.rt:50:9
 returns-4 : tie.Need-returns-4
 returns-4 c = simp (bauds, ne-eqb _ 0 (c .before .before .before .if1 .left), ne-eqb _ 1 (c .before .before .if2 .left), ne-eqb _ 42 (c .before .if3 .left), eq-eqb _ 54 (c .if4 .taken))
 
--- src/registers.rt:37:1
 returns-5 : tie.Need-returns-5
 returns-5 c =
     sym

@@ -1,28 +1,21 @@
+use borrow.Author.Needs.{needs}
 use mathlib.Core.Path.{sym, _∙_}
 use Rattle.thermostat.proofs.Laws.Rules.{not-settable, settable-as-taken}
-use borrow.Author.Needs.{needs}
 use Rattle.thermostat.proofs.registers.is_settable.Statement.{statement}
 use Rattle.thermostat.proofs.registers.is_settable.Tie as tie
-use Rattle.thermostat.proofs.registers.is_settable.Reads as reads
-use Rattle.thermostat.proofs.registers.is_settable.Lts as lts
-use Rattle.thermostat.proofs.registers.is_taken.Reads as is-taken-reads
 
--- src/registers.rt:88:8
 element-copy-out-if1 : tie.Need-element-copy-out-if1
 element-copy-out-if1 c = search needs
 
--- src/registers.rt:89:9
 returns : tie.Need-returns
 returns c =
     let at = c .before .before in
     let a = at .args in
     sym (not-settable (a .writable .now) (at .pre .0) (a .r) (a .v) (at .pre .1 .1 .1) (c .if1 .taken))
 
--- src/registers.rt:91:5
 is-taken-requires : tie.Need-is-taken-requires
 is-taken-requires c κs = search needs
 
--- src/registers.rt:75:1
 returns-2 : tie.Need-returns-2
 returns-2 c =
     let at = c .before .before .before in

@@ -1,42 +1,32 @@
+use Prim.Native.Nat.{ℕ, _<_, _≤_}
+use borrow.Author.Needs.{needs}
 use lib.Dec.{leb}
 use mathlib.Core.Path.{_≡_, sym, ap, _∙_}
-use Prim.Native.Nat.{ℕ, _<_, _≤_}
 use native.Mathlib.Omega.{arith}
-use Rattle.thermostat.specs.Registers.{takes, lowOf, highOf}
 use Rattle.thermostat.proofs.Laws.Rules.{too-low, low-enough}
-use borrow.Author.Needs.{needs}
 use Rattle.thermostat.proofs.registers.is_taken.Statement.{statement}
 use Rattle.thermostat.proofs.registers.is_taken.Tie as tie
-use Rattle.thermostat.proofs.registers.is_taken.Reads as reads
-use Rattle.thermostat.proofs.registers.is_taken.Lts as lts
-use Rattle.thermostat.proofs.registers.is_baud.Reads as is-baud-reads
-use Rattle.thermostat.proofs.registers.is_price_level.Reads as is-price-level-reads
+use Rattle.thermostat.specs.Registers.{takes, lowOf, highOf}
 
--- src/registers.rt:63:9
 is-price-level-requires : tie.Need-is-price-level-requires
 is-price-level-requires c κs = search needs
 
--- src/registers.rt:63:9
 returns : tie.Need-returns
 returns c =
     let a = c .before .before .args in
     c .is-price-level .ensures ∙ ap (λ (r : ℕ). takes r (a .v)) (sym (c .before .if1 .taken))
 
--- src/registers.rt:66:9
 is-baud-requires : tie.Need-is-baud-requires
 is-baud-requires c κs = search needs
 
--- src/registers.rt:66:9
 returns-2 : tie.Need-returns-2
 returns-2 c =
     let a = c .before .before .before .args in
     c .is-baud .ensures ∙ ap (λ (r : ℕ). takes r (a .v)) (sym (c .before .if2 .taken))
 
--- src/registers.rt:68:12
 element-copy-out-if3 : tie.Need-element-copy-out-if3
 element-copy-out-if3 c = search needs
 
--- src/registers.rt:69:9
 returns-3 : tie.Need-returns-3
 returns-3 c =
     let at = c .before .before .before .before in
@@ -44,11 +34,9 @@ returns-3 c =
     let l : a .v < lowOf (a .r) = omega (arith, at .pre .0 .entry (a .r) (at .pre .1 .1)) in
     sym (too-low (a .r) (a .v) (at .pre .1 .1) (c .before .before .before .if1 .left) (c .before .before .if2 .left) l)
 
--- src/registers.rt:71:10
 element-copy-out-result : tie.Need-element-copy-out-result
 element-copy-out-result c = search needs
 
--- src/registers.rt:56:1
 returns-4 : tie.Need-returns-4
 returns-4 c =
     let at = c .before .before .before .before .before in

@@ -1,44 +1,33 @@
-use mathlib.Core.Path.{sym, ap, _∙_}
-use Rattle.thermostat.specs.Temperature.{halfOf}
-use Rattle.thermostat.proofs.Laws.Setpoints.{cool-refused, heat-refused, both-bytes}
 use borrow.Author.Needs.{needs}
+use mathlib.Core.Path.{sym, ap, _∙_}
+use Rattle.thermostat.proofs.Laws.Setpoints.{cool-refused, heat-refused, both-bytes}
 use Rattle.thermostat.proofs.setpoints.to_bytes.Statement.{statement}
 use Rattle.thermostat.proofs.setpoints.to_bytes.Tie as tie
-use Rattle.thermostat.proofs.setpoints.to_bytes.Reads as reads
-use Rattle.thermostat.proofs.setpoints.to_bytes.Lts as lts
-use Rattle.thermostat.proofs.temperature.to_byte.Reads as to-byte-reads
+use Rattle.thermostat.specs.Temperature.{halfOf}
 
--- src/setpoints.rt:33:11
 to-byte-requires : tie.Need-to-byte-requires
 to-byte-requires c κs = search needs
 
--- src/setpoints.rt:34:23
 enum-known-r : tie.Need-enum-known-r
 enum-known-r c = search needs
 
--- src/setpoints.rt:35:20
 enum-known-cool : tie.Need-enum-known-cool
 enum-known-cool c = search needs
 
--- src/setpoints.rt:35:35
 to-byte-requires-2 : tie.Need-to-byte-requires-2
 to-byte-requires-2 c κs = search needs
 
--- src/setpoints.rt:36:27
 enum-known-r-2 : tie.Need-enum-known-r-2
 enum-known-r-2 c = search needs
 
--- src/setpoints.rt:37:24
 enum-known-heat : tie.Need-enum-known-heat
 enum-known-heat c = search needs
 
--- src/setpoints.rt:30:1
 returns : tie.Need-returns
 returns c =
     let start = c .before .before .before .before in
     sym (cool-refused (start .args .p .cool) (start .args .p .heat) _ (sym (c .before .before .before .to-byte .ensures) ∙ ap halfOf (c .before .r .given .1)))
 
--- src/setpoints.rt:30:1
 returns-2 : tie.Need-returns-2
 returns-2 c =
     let first = c .before .before .before .before .before in
@@ -48,7 +37,6 @@ returns-2 c =
     (sym (first .before .before .to-byte .ensures) ∙ ap halfOf (first .cool .given .1))
     (sym (c .before .before .before .to-byte2 .ensures) ∙ ap halfOf (c .before .r2 .given .1)))
 
--- src/setpoints.rt:30:1
 returns-3 : tie.Need-returns-3
 returns-3 c =
     let first = c .before .before .before .before .before in

@@ -1,36 +1,27 @@
-use mathlib.Core.Path.{sym, _∙_}
-use borrow.Author.Tests.{not-true, not-false}
-use Rattle.thermostat.specs.Map.{stored}
-use Rattle.thermostat.specs.Step.{allSettable}
-use Rattle.thermostat.proofs.Laws.Step.{chosen, not-chosen}
 use borrow.Author.Needs.{needs}
+use borrow.Author.Tests.{not-true, not-false}
+use mathlib.Core.Path.{sym, _∙_}
+use Rattle.thermostat.proofs.Laws.Step.{chosen, not-chosen}
 use Rattle.thermostat.proofs.step.change.Statement.{statement}
 use Rattle.thermostat.proofs.step.change.Tie as tie
-use Rattle.thermostat.proofs.step.change.Reads as reads
-use Rattle.thermostat.proofs.step.change.Lts as lts
-use Rattle.thermostat.proofs.registers.are_settable.Reads as are-settable-reads
-use Rattle.thermostat.proofs.step.store.Reads as store-reads
+use Rattle.thermostat.specs.Map.{stored}
+use Rattle.thermostat.specs.Step.{allSettable}
 
--- src/step.rt:62:9
 are-settable-requires : tie.Need-are-settable-requires
 are-settable-requires c κs = search needs
 
--- src/step.rt:63:9
 returns : tie.Need-returns
 returns c =
     let a = c .before .before .before .before .args in
     let e = sym (c .before .are-settable .ensures) ∙ not-true (c .before .are-settable .result) (c .if1 .taken) in
     (sym e, sym (not-chosen (allSettable (a .start) (a .values .now)) (stored (a .map .now) (a .start) (a .values .now)) (a .map .now) e))
 
--- src/step.rt:65:5
 store-requires : tie.Need-store-requires
 store-requires c κs = search needs
 
--- src/step.rt:56:1
 same-length : tie.Need-same-length
 same-length c = search needs
 
--- src/step.rt:56:1
 returns-2 : tie.Need-returns-2
 returns-2 c =
     let a = c .before .before .before .before .before .before .before .before .args in

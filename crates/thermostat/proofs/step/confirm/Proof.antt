@@ -1,27 +1,20 @@
+use borrow.Author.Needs.{needs}
+use lib.ListN.{length}
 use mathlib.Core.Bool.{cond}
 use native.Mathlib.Omega.{arith}
-use lib.ListN.{length}
-use Rattle.omnistat.specs.declared.frame.End.the-variants.{Host}
 use Rattle.omnistat.specs.Message.{acknowledge, negative}
 use Rattle.omnistat.specs.Omnistat.{write}
+use Rattle.omnistat.specs.declared.frame.End.the-variants.{Host}
 use Rattle.thermostat.proofs.Laws.Step.{chosen, not-chosen, acknowledged, refused-politely, counted, left-behind}
-use borrow.Author.Needs.{needs}
 use Rattle.thermostat.proofs.step.confirm.Statement.{statement}
 use Rattle.thermostat.proofs.step.confirm.Tie as tie
-use Rattle.thermostat.proofs.step.confirm.Reads as reads
-use Rattle.thermostat.proofs.step.confirm.Lts as lts
-use Rattle.omnistat.proofs.reply.write_acknowledge.Reads as write-acknowledge-reads
-use Rattle.omnistat.proofs.reply.write_negative.Reads as write-negative-reads
 
--- src/step.rt:78:9
 write-acknowledge-requires : tie.Need-write-acknowledge-requires
 write-acknowledge-requires c κs = search needs
 
--- src/step.rt:78:9
 same-length : tie.Need-same-length
 same-length c = search needs
 
--- src/step.rt:78:9
 returns : tie.Need-returns
 returns c =
     let start = c .before .before .before .before .before .before in
@@ -34,15 +27,12 @@ returns c =
       left-behind own (length old) (cond (start .args .taken) acknowledge negative) acknowledge k (write Host own acknowledge) e (omega arith) (start .pre .1) old _ (call .ensures .1),
     )
 
--- src/step.rt:80:5
 write-negative-requires : tie.Need-write-negative-requires
 write-negative-requires c κs = search needs
 
--- src/step.rt:71:1
 same-length-2 : tie.Need-same-length-2
 same-length-2 c = search needs
 
--- src/step.rt:71:1
 returns-2 : tie.Need-returns-2
 returns-2 c =
     let start = c .before .before .before .before .before .before in

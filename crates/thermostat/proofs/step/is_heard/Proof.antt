@@ -1,18 +1,13 @@
 use borrow.Author.Tests.{eq-eqb, ne-eqb}
 use Rattle.thermostat.proofs.step.is_heard.Statement.{statement}
 use Rattle.thermostat.proofs.step.is_heard.Tie as tie
-use Rattle.thermostat.proofs.step.is_heard.Reads as reads
-use Rattle.thermostat.proofs.step.is_heard.Lts as lts
 
--- src/step.rt:35:9
 returns : tie.Need-returns
 returns c = simp (eq-eqb _ 0 (c .if1 .taken))
 
--- src/step.rt:38:9
 returns-2 : tie.Need-returns-2
 returns-2 c = simp (ne-eqb _ 0 (c .before .if1 .left), eq-eqb _ _ (c .if2 .taken))
 
--- src/step.rt:31:1
 returns-3 : tie.Need-returns-3
 returns-3 c = simp (ne-eqb _ 0 (c .before .if1 .left), ne-eqb _ _ (c .if2 .left))
 

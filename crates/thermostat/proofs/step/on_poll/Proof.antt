@@ -1,24 +1,18 @@
-use mathlib.Core.Path.{refl, sym, _∙_}
-use mathlib.Core.List.{[]}
+use borrow.Author.Needs.{needs}
 use borrow.Author.Tests.{not-true, not-false}
+use mathlib.Core.List.{[]}
+use mathlib.Core.Path.{refl, sym, _∙_}
 use Rattle.answer.specs.Answer.{accepted}
 use Rattle.omnistat.specs.Message.{poll}
 use Rattle.omnistat.specs.Omnistat.{addressed}
-use Rattle.thermostat.specs.Step.{replyTo, replyBytes, sentBy}
 use Rattle.thermostat.proofs.Laws.Step.{unheard, unanswered, answered, same-count, same-left}
-use borrow.Author.Needs.{needs}
 use Rattle.thermostat.proofs.step.on_poll.Statement.{statement}
 use Rattle.thermostat.proofs.step.on_poll.Tie as tie
-use Rattle.thermostat.proofs.step.on_poll.Reads as reads
-use Rattle.thermostat.proofs.step.on_poll.Lts as lts
-use Rattle.thermostat.proofs.step.is_heard.Reads as is-heard-reads
-use Rattle.thermostat.proofs.step.report.Reads as report-reads
+use Rattle.thermostat.specs.Step.{replyTo, replyBytes, sentBy}
 
--- src/step.rt:192:9
 is-heard-requires : tie.Need-is-heard-requires
 is-heard-requires c κs = search needs
 
--- src/step.rt:193:9
 returns : tie.Need-returns
 returns c =
     let a = c .before .before .before .before .args in
@@ -30,7 +24,6 @@ returns c =
     let k = unheard (a .own) (a .first) m q e in
     (same-count [] named k (accepted 0) refl, same-left [] named k old old refl)
 
--- src/step.rt:196:9
 returns-2 : tie.Need-returns-2
 returns-2 c =
     let a = c .before .before .before .before .before .args in
@@ -42,15 +35,12 @@ returns-2 c =
     let k = unanswered (a .own) (a .first) m q e (c .if2 .taken) in
     (same-count [] named k (accepted 0) refl, same-left [] named k old old refl)
 
--- src/step.rt:198:5
 report-requires : tie.Need-report-requires
 report-requires c κs = search needs
 
--- src/step.rt:183:1
 same-length : tie.Need-same-length
 same-length c = search needs
 
--- src/step.rt:183:1
 returns-3 : tie.Need-returns-3
 returns-3 c =
     let a = c .before .before .before .before .before .before .before .before .before .args in

@@ -1,26 +1,19 @@
-use mathlib.Core.Path.{refl, sym, ap, _∙_}
+use borrow.Author.Needs.{needs}
+use borrow.Author.Tests.{not-true, not-false}
 use mathlib.Core.Bool.{Bool, cond}
 use mathlib.Core.List.{[]}
-use borrow.Author.Tests.{not-true, not-false}
+use mathlib.Core.Path.{refl, sym, ap, _∙_}
 use Rattle.answer.specs.Answer.{accepted}
 use Rattle.omnistat.specs.Message.{setFrom, acknowledge, negative}
 use Rattle.omnistat.specs.Omnistat.{addressed}
-use Rattle.thermostat.specs.Step.{replyBytes, sentBy}
 use Rattle.thermostat.proofs.Laws.Step.{unheard, unheard-map, heard-map, unanswered, answered, same-count, same-left}
-use borrow.Author.Needs.{needs}
 use Rattle.thermostat.proofs.step.on_set.Statement.{statement}
 use Rattle.thermostat.proofs.step.on_set.Tie as tie
-use Rattle.thermostat.proofs.step.on_set.Reads as reads
-use Rattle.thermostat.proofs.step.on_set.Lts as lts
-use Rattle.thermostat.proofs.step.change.Reads as change-reads
-use Rattle.thermostat.proofs.step.confirm.Reads as confirm-reads
-use Rattle.thermostat.proofs.step.is_heard.Reads as is-heard-reads
+use Rattle.thermostat.specs.Step.{replyBytes, sentBy}
 
--- src/step.rt:172:9
 is-heard-requires : tie.Need-is-heard-requires
 is-heard-requires c κs = search needs
 
--- src/step.rt:173:9
 returns : tie.Need-returns
 returns c =
     let a = c .before .before .before .before .before .args in
@@ -32,15 +25,12 @@ returns c =
     let k = unheard (a .own) (a .first) m q e in
     (same-count [] named k (accepted 0) refl, (sym (unheard-map (a .own) (a .first) m q e), same-left [] named k old old refl))
 
--- src/step.rt:175:9
 change-requires : tie.Need-change-requires
 change-requires c κs = search needs
 
--- src/step.rt:177:9
 same-length : tie.Need-same-length
 same-length c = search needs
 
--- src/step.rt:177:9
 returns-2 : tie.Need-returns-2
 returns-2 c =
     let a = c .before .before .before .before .before .before .before .before .before .before .args in
@@ -53,19 +43,15 @@ returns-2 c =
     let changes = c .before .before .before .change .ensures .1 in
     (same-count [] named k (accepted 0) refl, (changes ∙ sym (heard-map (a .own) (a .first) m q e), same-left [] named k old old refl))
 
--- src/step.rt:179:5
 confirm-requires : tie.Need-confirm-requires
 confirm-requires c κs = search needs
 
--- src/step.rt:163:1
 same-length-2 : tie.Need-same-length-2
 same-length-2 c = search needs
 
--- src/step.rt:163:1
 same-length-3 : tie.Need-same-length-3
 same-length-3 c = search needs
 
--- src/step.rt:163:1
 returns-3 : tie.Need-returns-3
 returns-3 c =
     let a = c .before .before .before .before .before .before .before .before .before .before .before .before .before .before .args in

@@ -1,42 +1,32 @@
-use mathlib.Core.Path.{_≡_, sym, _∙_}
-use mathlib.Core.List.{List, _∷_}
 use Prim.Native.Nat.{ℕ, _+_, _-_, _≤_}
-use native.Mathlib.Omega.{arith}
-use lib.ListN.{length, take, drop}
+use borrow.Author.Needs.{needs}
 use borrow.Author.Tests.{not-true, not-false}
-use Rattle.omnistat.specs.declared.frame.End.the-variants.{Host}
+use lib.ListN.{length, take, drop}
+use mathlib.Core.List.{List, _∷_}
+use mathlib.Core.Path.{_≡_, sym, _∙_}
+use native.Mathlib.Omega.{arith}
 use Rattle.omnistat.specs.Message.{poll, negative, dataFrom}
 use Rattle.omnistat.specs.Omnistat.{write}
-use Rattle.thermostat.specs.Step.{replyTo}
+use Rattle.omnistat.specs.declared.frame.End.the-variants.{Host}
 use Rattle.thermostat.proofs.Laws.Step.{run-end, not-reported, reported, part-sent, part-length, refused-politely, counted, left-behind}
-use borrow.Author.Needs.{needs}
 use Rattle.thermostat.proofs.step.report.Statement.{statement}
 use Rattle.thermostat.proofs.step.report.Tie as tie
-use Rattle.thermostat.proofs.step.report.Reads as reads
-use Rattle.thermostat.proofs.step.report.Lts as lts
-use Rattle.omnistat.proofs.reply.write_data.Reads as write-data-reads
-use Rattle.omnistat.proofs.reply.write_negative.Reads as write-negative-reads
-use Rattle.thermostat.proofs.registers.are_listed.Reads as are-listed-reads
+use Rattle.thermostat.specs.Step.{replyTo}
 
--- src/step.rt:95:16
 add-past : tie.Need-add-past
 add-past c = search needs
 
--- src/step.rt:96:9
 are-listed-requires : tie.Need-are-listed-requires
 are-listed-requires c κs =
     let start = c .before .before in
     run-end (start .args .start) (start .args .count) (start .pre .1 .1 .1 .1)
 
--- src/step.rt:97:9
 write-negative-requires : tie.Need-write-negative-requires
 write-negative-requires c κs = search needs
 
--- src/step.rt:97:9
 same-length : tie.Need-same-length
 same-length c = search needs
 
--- src/step.rt:97:9
 returns : tie.Need-returns
 returns c =
     let start = c .before .before .before .before .before .before .before .before in
@@ -55,30 +45,24 @@ returns c =
       left-behind own (length old) q negative k (write Host own negative) e (omega arith) (start .pre .1 .0) old _ (call .ensures .1),
     )
 
--- src/step.rt:99:45
 sub-write-data : tie.Need-sub-write-data
 sub-write-data c = search needs
 
--- src/step.rt:99:45
 part-write-data-start : tie.Need-part-write-data-start
 part-write-data-start c = search needs
 
--- src/step.rt:99:45
 part-write-data-end : tie.Need-part-write-data-end
 part-write-data-end c =
     let start = c .before .before .before .before in
     let h : start .args .start + start .args .count ≤ 256 = run-end (start .args .start) (start .args .count) (start .pre .1 .1 .1 .1) in
     search needs
 
--- src/step.rt:99:5
 write-data-requires : tie.Need-write-data-requires
 write-data-requires c κs = search needs
 
--- src/step.rt:84:1
 same-length-2 : tie.Need-same-length-2
 same-length-2 c = search needs
 
--- src/step.rt:84:1
 returns-2 : tie.Need-returns-2
 returns-2 c =
     let start = c .before .before .before .before .before .before .before .before .before in

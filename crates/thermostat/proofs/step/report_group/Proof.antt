@@ -1,48 +1,35 @@
-use mathlib.Core.Path.{_≡_, sym, ap, _∙_}
-use lib.ListN.{length}
-use Rattle.answer.specs.Answer.{accepted, outAfter}
-use Rattle.omnistat.specs.declared.group.Group.{Group}
-use Rattle.omnistat.specs.declared.group.Group.the-variants.{First, Second, Third}
-use Rattle.omnistat.specs.Message.{pollGroup}
-use Rattle.thermostat.specs.Step.{replyTo, replyBytes}
 use borrow.Author.Needs.{needs}
+use lib.ListN.{length}
+use mathlib.Core.Path.{_≡_, sym, ap, _∙_}
+use Rattle.answer.specs.Answer.{accepted, outAfter}
+use Rattle.omnistat.specs.Message.{pollGroup}
+use Rattle.omnistat.specs.declared.group.Group.the-variants.{First, Second, Third}
+use Rattle.omnistat.specs.declared.group.Group.{Group}
 use Rattle.thermostat.proofs.step.report_group.Statement.{statement}
 use Rattle.thermostat.proofs.step.report_group.Tie as tie
-use Rattle.thermostat.proofs.step.report_group.Reads as reads
-use Rattle.thermostat.proofs.step.report_group.Lts as lts
-use Rattle.thermostat.proofs.step.report_first.Reads as report-first-reads
-use Rattle.thermostat.proofs.step.report_second.Reads as report-second-reads
-use Rattle.thermostat.proofs.step.report_third.Reads as report-third-reads
+use Rattle.thermostat.specs.Step.{replyTo, replyBytes}
 
--- src/step.rt:156:48
 enum-told : tie.Need-enum-told
 enum-told c = search needs
 
--- src/step.rt:156:25
 report-first-requires : tie.Need-report-first-requires
 report-first-requires c κs = search needs
 
--- src/step.rt:157:50
 enum-told-2 : tie.Need-enum-told-2
 enum-told-2 c = search needs
 
--- src/step.rt:157:26
 report-second-requires : tie.Need-report-second-requires
 report-second-requires c κs = search needs
 
--- src/step.rt:158:48
 enum-told-3 : tie.Need-enum-told-3
 enum-told-3 c = search needs
 
--- src/step.rt:158:25
 report-third-requires : tie.Need-report-third-requires
 report-third-requires c κs = search needs
 
--- src/step.rt:148:1
 same-length : tie.Need-same-length
 same-length c = search needs
 
--- src/step.rt:148:1
 returns : tie.Need-returns
 returns c =
     let start = c .before .before .before .before .before .before .before .before in
@@ -55,11 +42,9 @@ returns c =
       call .ensures .1 ∙ ap (λ (g : Group). outAfter (accepted (replyBytes own (replyTo m (pollGroup g)))) old) (sym e),
     )
 
--- src/step.rt:148:1
 same-length-2 : tie.Need-same-length-2
 same-length-2 c = search needs
 
--- src/step.rt:148:1
 returns-2 : tie.Need-returns-2
 returns-2 c =
     let start = c .before .before .before .before .before .before .before .before in
@@ -72,11 +57,9 @@ returns-2 c =
       call .ensures .1 ∙ ap (λ (g : Group). outAfter (accepted (replyBytes own (replyTo m (pollGroup g)))) old) (sym e),
     )
 
--- src/step.rt:148:1
 same-length-3 : tie.Need-same-length-3
 same-length-3 c = search needs
 
--- src/step.rt:148:1
 returns-3 : tie.Need-returns-3
 returns-3 c =
     let start = c .before .before .before .before .before .before .before .before in

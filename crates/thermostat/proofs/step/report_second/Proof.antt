@@ -1,57 +1,44 @@
+use borrow.Author.Needs.{needs}
+use lib.ListN.{length}
 use mathlib.Core.Path.{refl}
 use native.Mathlib.Omega.{arith}
-use lib.ListN.{length}
-use Rattle.omnistat.specs.declared.group.Group.the-variants.{Second}
-use Rattle.omnistat.specs.declared.frame.End.the-variants.{Host}
 use Rattle.omnistat.specs.Message.{group}
 use Rattle.omnistat.specs.Omnistat.{write}
-use Rattle.thermostat.specs.Map.{content, contents}
-use Rattle.thermostat.specs.Step.{registersOf}
+use Rattle.omnistat.specs.declared.frame.End.the-variants.{Host}
+use Rattle.omnistat.specs.declared.group.Group.the-variants.{Second}
 use Rattle.thermostat.proofs.Laws.Step.{second-sent, counted, left-behind}
-use borrow.Author.Needs.{needs}
 use Rattle.thermostat.proofs.step.report_second.Statement.{statement}
 use Rattle.thermostat.proofs.step.report_second.Tie as tie
-use Rattle.thermostat.proofs.step.report_second.Reads as reads
-use Rattle.thermostat.proofs.step.report_second.Lts as lts
-use Rattle.omnistat.proofs.reply.write_group.Reads as write-group-reads
+use Rattle.thermostat.specs.Map.{content, contents}
+use Rattle.thermostat.specs.Step.{registersOf}
 
--- src/step.rt:121:19
 shared-slice-read-t6 : tie.Need-shared-slice-read-t6
 shared-slice-read-t6 c = search needs
 
--- src/step.rt:121:29
 shared-slice-read-t8 : tie.Need-shared-slice-read-t8
 shared-slice-read-t8 c = search needs
 
--- src/step.rt:121:39
 shared-slice-read-t10 : tie.Need-shared-slice-read-t10
 shared-slice-read-t10 c = search needs
 
--- src/step.rt:121:49
 shared-slice-read-t12 : tie.Need-shared-slice-read-t12
 shared-slice-read-t12 c = search needs
 
--- src/step.rt:121:58
 shared-slice-read-t14 : tie.Need-shared-slice-read-t14
 shared-slice-read-t14 c = search needs
 
--- src/step.rt:121:67
 shared-slice-read-t16 : tie.Need-shared-slice-read-t16
 shared-slice-read-t16 c = search needs
 
--- src/step.rt:122:54
 slice-aggregate-write-group : tie.Need-slice-aggregate-write-group
 slice-aggregate-write-group c = search needs
 
--- src/step.rt:122:5
 write-group-requires : tie.Need-write-group-requires
 write-group-requires c κs = search needs
 
--- src/step.rt:114:1
 same-length : tie.Need-same-length
 same-length c = search needs
 
--- src/step.rt:114:1
 returns : tie.Need-returns
 unfolding content
 returns c =

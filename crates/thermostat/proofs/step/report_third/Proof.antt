@@ -1,73 +1,56 @@
+use borrow.Author.Needs.{needs}
+use lib.ListN.{length}
 use mathlib.Core.Path.{refl}
 use native.Mathlib.Omega.{arith}
-use lib.ListN.{length}
-use Rattle.omnistat.specs.declared.group.Group.the-variants.{Third}
-use Rattle.omnistat.specs.declared.frame.End.the-variants.{Host}
 use Rattle.omnistat.specs.Message.{group}
 use Rattle.omnistat.specs.Omnistat.{write}
-use Rattle.thermostat.specs.Map.{content, contents}
-use Rattle.thermostat.specs.Step.{registersOf}
+use Rattle.omnistat.specs.declared.frame.End.the-variants.{Host}
+use Rattle.omnistat.specs.declared.group.Group.the-variants.{Third}
 use Rattle.thermostat.proofs.Laws.Step.{third-sent, counted, left-behind}
-use borrow.Author.Needs.{needs}
 use Rattle.thermostat.proofs.step.report_third.Statement.{statement}
 use Rattle.thermostat.proofs.step.report_third.Tie as tie
-use Rattle.thermostat.proofs.step.report_third.Reads as reads
-use Rattle.thermostat.proofs.step.report_third.Lts as lts
-use Rattle.omnistat.proofs.reply.write_group.Reads as write-group-reads
+use Rattle.thermostat.specs.Map.{content, contents}
+use Rattle.thermostat.specs.Step.{registersOf}
 
--- src/step.rt:133:9
 shared-slice-read-t6 : tie.Need-shared-slice-read-t6
 shared-slice-read-t6 c = search needs
 
--- src/step.rt:134:9
 shared-slice-read-t8 : tie.Need-shared-slice-read-t8
 shared-slice-read-t8 c = search needs
 
--- src/step.rt:135:9
 shared-slice-read-t10 : tie.Need-shared-slice-read-t10
 shared-slice-read-t10 c = search needs
 
--- src/step.rt:136:9
 shared-slice-read-t12 : tie.Need-shared-slice-read-t12
 shared-slice-read-t12 c = search needs
 
--- src/step.rt:137:9
 shared-slice-read-t14 : tie.Need-shared-slice-read-t14
 shared-slice-read-t14 c = search needs
 
--- src/step.rt:138:9
 shared-slice-read-t16 : tie.Need-shared-slice-read-t16
 shared-slice-read-t16 c = search needs
 
--- src/step.rt:139:9
 shared-slice-read-t18 : tie.Need-shared-slice-read-t18
 shared-slice-read-t18 c = search needs
 
--- src/step.rt:140:9
 shared-slice-read-t20 : tie.Need-shared-slice-read-t20
 shared-slice-read-t20 c = search needs
 
--- src/step.rt:141:9
 shared-slice-read-t22 : tie.Need-shared-slice-read-t22
 shared-slice-read-t22 c = search needs
 
--- src/step.rt:142:9
 shared-slice-read-t24 : tie.Need-shared-slice-read-t24
 shared-slice-read-t24 c = search needs
 
--- src/step.rt:144:53
 slice-aggregate-write-group : tie.Need-slice-aggregate-write-group
 slice-aggregate-write-group c = search needs
 
--- src/step.rt:144:5
 write-group-requires : tie.Need-write-group-requires
 write-group-requires c κs = search needs
 
--- src/step.rt:125:1
 same-length : tie.Need-same-length
 same-length c = search needs
 
--- src/step.rt:125:1
 returns : tie.Need-returns
 unfolding content
 returns c =

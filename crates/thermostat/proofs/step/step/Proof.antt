@@ -1,28 +1,20 @@
-use mathlib.Core.Path.{refl, sym, ap, _∙_}
-use mathlib.Core.List.{List}
 use Prim.Native.Nat.{ℕ}
+use borrow.Author.Needs.{needs}
 use lib.ListN.{length}
+use mathlib.Core.List.{List}
+use mathlib.Core.Path.{refl, sym, ap, _∙_}
 use Rattle.answer.specs.Answer.{accepted, numberOf}
-use Rattle.omnistat.specs.declared.frame.End.the-variants.{Thermostat}
+use Rattle.omnistat.proofs.Laws.Heard.{request-read}
+use Rattle.omnistat.proofs.Laws.Outcome.{still-refused}
+use Rattle.omnistat.specs.Answer.{requestOf, onMessage, countedRequest}
 use Rattle.omnistat.specs.Message.{poll, setFrom, pollGroup}
 use Rattle.omnistat.specs.Omnistat.{addressed, read}
-use Rattle.omnistat.specs.Answer.{requestOf, onMessage, countedRequest}
-use Rattle.omnistat.proofs.Laws.Outcome.{still-refused}
-use Rattle.omnistat.proofs.Laws.Heard.{request-read}
-use Rattle.thermostat.specs.Step.{step}
+use Rattle.omnistat.specs.declared.frame.End.the-variants.{Thermostat}
 use Rattle.thermostat.proofs.Laws.Step.{too-little-room, wrong-map, address-too-low, address-too-high, reader-refuses, stepped, when-refused, when-done, only-sets, poll-read, set-read}
-use borrow.Author.Needs.{needs}
 use Rattle.thermostat.proofs.step.step.Statement.{statement}
 use Rattle.thermostat.proofs.step.step.Tie as tie
-use Rattle.thermostat.proofs.step.step.Reads as reads
-use Rattle.thermostat.proofs.step.step.Lts as lts
-use Rattle.omnistat.proofs.request.read.Reads as read-reads
-use Rattle.omnistat.proofs.request.values.Reads as values-reads
-use Rattle.thermostat.proofs.step.on_group.Reads as on-group-reads
-use Rattle.thermostat.proofs.step.on_poll.Reads as on-poll-reads
-use Rattle.thermostat.proofs.step.on_set.Reads as on-set-reads
+use Rattle.thermostat.specs.Step.{step}
 
--- src/step.rt:225:9
 returns : tie.Need-returns
 returns c =
     let a = c .before .before .before .before .args in
@@ -32,7 +24,6 @@ returns c =
     let o = step (a .own) m s (length old) in
     when-refused o 9 m old (too-little-room (a .own) m s (length old) (c .if1 .taken))
 
--- src/step.rt:228:9
 returns-2 : tie.Need-returns-2
 returns-2 c =
     let a = c .before .before .before .before .before .args in
@@ -42,7 +33,6 @@ returns-2 c =
     let o = step (a .own) m s (length old) in
     when-refused o 9 m old (wrong-map (a .own) m s (length old) (c .before .if1 .left) (c .if2 .taken))
 
--- src/step.rt:231:9
 returns-3 : tie.Need-returns-3
 returns-3 c =
     let a = c .before .before .before .before .before .before .args in
@@ -52,7 +42,6 @@ returns-3 c =
     let o = step (a .own) m s (length old) in
     when-refused o 8 m old (address-too-low (a .own) m s (length old) (c .before .before .if1 .left) (c .before .if2 .left) (c .if3 .taken))
 
--- src/step.rt:234:9
 returns-4 : tie.Need-returns-4
 returns-4 c =
     let a = c .before .before .before .before .before .before .before .args in
@@ -62,19 +51,15 @@ returns-4 c =
     let o = step (a .own) m s (length old) in
     when-refused o 8 m old (address-too-high (a .own) m s (length old) (c .before .before .before .if1 .left) (c .before .before .if2 .left) (c .if4 .taken))
 
--- src/step.rt:236:11
 read-requires : tie.Need-read-requires
 read-requires c κs = search needs
 
--- src/step.rt:237:26
 enum-known-r : tie.Need-enum-known-r
 enum-known-r c = search needs
 
--- src/step.rt:239:13
 enum-known-first : tie.Need-enum-known-first
 enum-known-first c = search needs
 
--- src/step.rt:242:14
 on-poll-requires : tie.Need-on-poll-requires
 on-poll-requires c κs =
     let s = c .before .before .before .before .before .before .before .before .before .before .before .before .before .args .bytes .now in
@@ -86,15 +71,12 @@ on-poll-requires c κs =
     let p = poll-read s first start count (request-read s first (poll start count) e) in
     ((c .before .before .before .before .before .before .before .if3 .left, c .before .before .before .before .before .before .if4 .left), (c .before .before .before .before .before .before .before .before .before .if1 .left, (c .before .before .before .before .before .before .before .before .if2 .left, p)))
 
--- src/step.rt:244:13
 enum-known-first-2 : tie.Need-enum-known-first-2
 enum-known-first-2 c = search needs
 
--- src/step.rt:252:13
 values-requires : tie.Need-values-requires
 values-requires c κs = search needs
 
--- src/step.rt:247:14
 on-set-requires : tie.Need-on-set-requires
 on-set-requires c κs =
     let s = c .before .before .before .before .before .before .before .before .before .before .before .before .before .before .args .bytes .now in
@@ -109,15 +91,12 @@ on-set-requires c κs =
     ∙ ap (λ (x : List ℕ). accepted (addressed first (setFrom start x))) (sym (c .before .values .ensures)) in
     ((c .before .before .before .before .before .before .before .before .if3 .left, c .before .before .before .before .before .before .before .if4 .left), (c .before .before .before .before .before .before .before .before .before .before .if1 .left, (c .before .before .before .before .before .before .before .before .before .if2 .left, set-read s first start v r)))
 
--- src/step.rt:255:30
 enum-known-first-3 : tie.Need-enum-known-first-3
 enum-known-first-3 c = search needs
 
--- src/step.rt:255:48
 on-group-requires : tie.Need-on-group-requires
 on-group-requires c κs = search needs
 
--- src/step.rt:219:1
 returns-5 : tie.Need-returns-5
 returns-5 c =
     let a = c .before .before .before .before .before .before .before .before .before .before .before .args in
@@ -131,15 +110,12 @@ returns-5 c =
     (reader-refuses (a .own) m s (length old) (c .before .before .before .before .before .before .before .if1 .left) (c .before .before .before .before .before .before .if2 .left) (c .before .before .before .before .before .if3 .left) (c .before .before .before .before .if4 .left) n
     (still-refused (onMessage countedRequest) (read Thermostat s) n e))
 
--- src/step.rt:219:1
 same-length : tie.Need-same-length
 same-length c = search needs
 
--- src/step.rt:219:1
 same-length-2 : tie.Need-same-length-2
 same-length-2 c = search needs
 
--- src/step.rt:219:1
 returns-6 : tie.Need-returns-6
 returns-6 c =
     let a = c .before .before .before .before .before .before .before .before .before .before .before .before .before .before .before .before .args in
@@ -158,15 +134,12 @@ returns-6 c =
     (stepped (a .own) m s (length old) (c .before .before .before .before .before .before .before .before .before .before .before .before .if1 .left) (c .before .before .before .before .before .before .before .before .before .before .before .if2 .left) (c .before .before .before .before .before .before .before .before .before .before .if3 .left) (c .before .before .before .before .before .before .before .before .before .if4 .left) q (request-read s first (poll start count) e))
     (call .ensures .0) (only-sets (a .own) m first (poll start count) refl) (call .ensures .1)
 
--- src/step.rt:219:1
 same-length-3 : tie.Need-same-length-3
 same-length-3 c = search needs
 
--- src/step.rt:219:1
 same-length-4 : tie.Need-same-length-4
 same-length-4 c = search needs
 
--- src/step.rt:219:1
 returns-7 : tie.Need-returns-7
 returns-7 c =
     let a = c .before .before .before .before .before .before .before .before .before .before .before .before .before .before .before .before .before .before .before .args in
@@ -189,15 +162,12 @@ returns-7 c =
     (stepped (a .own) m s (length old) (c .before .before .before .before .before .before .before .before .before .before .before .before .before .before .before .if1 .left) (c .before .before .before .before .before .before .before .before .before .before .before .before .before .before .if2 .left) (c .before .before .before .before .before .before .before .before .before .before .before .before .before .if3 .left) (c .before .before .before .before .before .before .before .before .before .before .before .before .if4 .left) q r)
     (call .ensures .0) (call .ensures .1 .0) (call .ensures .1 .1)
 
--- src/step.rt:219:1
 same-length-5 : tie.Need-same-length-5
 same-length-5 c = search needs
 
--- src/step.rt:219:1
 same-length-6 : tie.Need-same-length-6
 same-length-6 c = search needs
 
--- src/step.rt:219:1
 returns-8 : tie.Need-returns-8
 returns-8 c =
     let a = c .before .before .before .before .before .before .before .before .before .before .before .before .before .before .before .before .args in

@@ -1,15 +1,13 @@
-use mathlib.Core.Path.{_≡_, refl, sym, ap, _∙_}
 use Prim.Native.Nat.{ℕ, _+_, _-_, _<_, _≤_, zero-le}
-use native.Mathlib.Omega.{arith}
 use borrow.Author.Needs.{needs}
 use lib.ListN.{length, getD, take, drop, set}
 use lib.ListN.{length-set}
-use Rattle.thermostat.specs.Map.{stored}
+use mathlib.Core.Path.{_≡_, refl, sym, ap, _∙_}
+use native.Mathlib.Omega.{arith}
 use Rattle.thermostat.proofs.Laws.Map.{stored-begun, stored-next, stored-ended}
 use Rattle.thermostat.proofs.step.store.Statement.{statement}
 use Rattle.thermostat.proofs.step.store.Tie as tie
-use Rattle.thermostat.proofs.step.store.Reads as reads
-use Rattle.thermostat.proofs.step.store.Lts as lts
+use Rattle.thermostat.specs.Map.{stored}
 
 abbrev Inv-loop : tie.InvT-loop
 Inv-loop map₀ start values i₀ map i =
@@ -18,31 +16,24 @@ Inv-loop map₀ start values i₀ map i =
 abbrev μ-loop : tie.MeasureT-loop
 μ-loop map₀ start values i₀ map i = length values - i
 
--- src/step.rt:49:5
 loop-holds : tie.Need-loop-holds Inv-loop μ-loop
 loop-holds c = (zero-le, refl, stored-begun (c .args .map .now) (c .args .start) (c .args .values .now))
 
--- src/step.rt:50:26
 shared-slice-read-map : tie.Need-shared-slice-read-map Inv-loop μ-loop
 shared-slice-read-map c = search needs
 
--- src/step.rt:50:13
 add-map : tie.Need-add-map Inv-loop μ-loop
 add-map c = search needs
 
--- src/step.rt:50:9
 slice-write-map : tie.Need-slice-write-map Inv-loop μ-loop
 slice-write-map c = search needs
 
--- src/step.rt:51:9
 add-i : tie.Need-add-i Inv-loop μ-loop
 add-i c = search needs
 
--- src/step.rt:49:5
 loop-less : tie.Need-loop-less Inv-loop μ-loop
 loop-less c = search needs
 
--- src/step.rt:49:5
 loop-again : tie.Need-loop-again Inv-loop μ-loop
 loop-again c =
     let at = c .before .before in
@@ -53,11 +44,9 @@ loop-again c =
       at .loop .inv .2 ∙ stored-next (at .loop .map) (a .start) (a .values .now) i (c .before .loop-test .taken),
     )
 
--- src/step.rt:44:1
 same-length : tie.Need-same-length Inv-loop μ-loop
 same-length c = search needs
 
--- src/step.rt:44:1
 returns : tie.Need-returns Inv-loop μ-loop
 returns c =
     let at = c .before in

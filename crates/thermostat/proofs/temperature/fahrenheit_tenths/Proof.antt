@@ -1,23 +1,17 @@
-use Rattle.thermostat.proofs.Laws.Fahrenheit.{times-fits, tenths-fit, tenths}
 use borrow.Author.Needs.{needs}
+use Rattle.thermostat.proofs.Laws.Fahrenheit.{times-fits, tenths-fit, tenths}
 use Rattle.thermostat.proofs.temperature.fahrenheit_tenths.Statement.{statement}
 use Rattle.thermostat.proofs.temperature.fahrenheit_tenths.Tie as tie
-use Rattle.thermostat.proofs.temperature.fahrenheit_tenths.Reads as reads
-use Rattle.thermostat.proofs.temperature.fahrenheit_tenths.Lts as lts
 
--- src/temperature.rt:23:6
 cast-result : tie.Need-cast-result
 cast-result c = search needs
 
--- src/temperature.rt:23:5
 mul-result : tie.Need-mul-result
 mul-result c = times-fits (c .args .byte) (c .fits .byte .fits)
 
--- src/temperature.rt:23:5
 sub-result : tie.Need-sub-result
 sub-result c = tenths-fit (c .args .byte) (c .fits .byte .fits)
 
--- src/temperature.rt:20:1
 returns : tie.Need-returns
 returns c = tenths (c .args .byte) (c .fits .byte .fits)
 

@@ -1,46 +1,64 @@
+use Prim.Native.Nat.{ℕ, _<_}
+use borrow.Author.Needs.{needs}
+use borrow.Author.Tests.{not-true, not-false}
+use lib.Count.{trailingZeros}
+use lib.Dec.{T}
+use lib.Ieee.{Float, fin, ofBits, neg, ofFields, odd, eq, lt}
+use lib.IntN.{pos}
 use mathlib.Core.Bool.{true, false}
 use mathlib.Core.Path.{_≡_, sym, ap, _∙_, subst}
-use lib.Dec.{T}
-use lib.Count.{trailingZeros}
-use Prim.Native.Nat.{ℕ}
 use native.Mathlib.Omega.{arith}
-use lib.IntN.{pos}
-use lib.Ieee.{Float, fin, ofBits, neg, ofFields, odd, eq, lt}
-use Rattle.thermostat.specs.Temperature.{celsius}
 use Rattle.thermostat.proofs.Laws.Temperature.{counted, one-byte, no-byte, the-byte, under-most, above-least, clash}
-use borrow.Author.Needs.{needs}
 use Rattle.thermostat.proofs.temperature.to_byte.Statement.{statement}
 use Rattle.thermostat.proofs.temperature.to_byte.Tie as tie
-use Rattle.thermostat.proofs.temperature.to_byte.Reads as reads
-use Rattle.thermostat.proofs.temperature.to_byte.Lts as lts
-use Rattle.std.proofs.num.truncating_f32_to_u64.Reads as truncating-f32-to-u64-reads
-use Rattle.thermostat.proofs.temperature.celsius.Reads as celsius-reads
+use Rattle.thermostat.specs.Temperature.{celsius}
 
--- src/temperature.rt:33:17
+returns : tie.Need-returns
+unfolding ofBits neg ofFields odd trailingZeros
+returns c =
+    let start = c .before in
+    let x = start .args .degrees in
+    let least = lt (fin true 1 (pos 0)) (counted x) in
+    sym (no-byte x (λ n h e. clash least (above-least x (subst T (sym (start .good .0 .1)) tt) n h e) (not-true least (c .if1 .taken))))
+
+returns-2 : tie.Need-returns-2
+unfolding ofBits neg ofFields odd trailingZeros
+returns-2 c =
+    let start = c .before .before in
+    let x = start .args .degrees in
+    let most = lt (counted x) (fin false 1 (pos 64)) in
+    sym (no-byte x (λ n h e. clash most (under-most x (subst T (sym (start .good .0 .1)) tt) n h e) (not-true most (c .if2 .taken))))
+
 truncating-f32-to-u64-requires : tie.Need-truncating-f32-to-u64-requires
 unfolding ofBits neg ofFields odd trailingZeros
-truncating-f32-to-u64-requires c κs = (subst T (sym (c .before .if1 .taken)) tt, subst T (sym (c .if2 .taken)) tt)
+truncating-f32-to-u64-requires c κs =
+    let x = c .before .before .args .degrees in
+    let least = lt (fin true 1 (pos 0)) (counted x) in
+    let most = lt (counted x) (fin false 1 (pos 64)) in
+    (subst T (sym (not-false least (c .before .if1 .left))) tt, subst T (sym (not-false most (c .if2 .left))) tt)
 
--- src/temperature.rt:35:28
+returns-3 : tie.Need-returns-3
+returns-3 c =
+    let start = c .before .before .before .before in
+    let x = start .args .degrees in
+    sym (no-byte x (λ n h e. omega (arith, the-byte x (subst T (sym (start .good .0 .1)) tt) n h e, c .before .truncating-f32-to-u64 .ensures, c .if3 .taken)))
+
 cast-byte : tie.Need-cast-byte
 cast-byte c = search needs
 
--- src/temperature.rt:36:31
 celsius-requires : tie.Need-celsius-requires
 celsius-requires c κs = search needs
 
--- src/temperature.rt:37:21
-returns : tie.Need-returns
-returns c =
+returns-4 : tie.Need-returns-4
+returns-4 c =
     let start = c .before .before .before .before .before .before in
     let x = start .args .degrees in
     let n = c .before .before .before .truncating-f32-to-u64 .result in
-    sym
-    (one-byte x (subst T (sym (start .good .0 .1)) tt) n (c .before .before .if3 .taken) (ap (λ (y : Float). eq x y) (sym (c .before .celsius .ensures)) ∙ c .if4 .taken))
+    let h : n < 256 = omega (arith, c .before .before .if3 .left) in
+    sym (one-byte x (subst T (sym (start .good .0 .1)) tt) n h (ap (λ (y : Float). eq x y) (sym (c .before .celsius .ensures)) ∙ c .if4 .taken))
 
--- src/temperature.rt:27:1
-returns-2 : tie.Need-returns-2
-returns-2 c =
+returns-5 : tie.Need-returns-5
+returns-5 c =
     let start = c .before .before .before .before .before .before in
     let x = start .args .degrees in
     let call = c .before .before .before .truncating-f32-to-u64 in
@@ -52,37 +70,15 @@ returns-2 c =
     ∙ ap (λ (y : Float). eq x y) (sym (c .before .celsius .ensures))
     ∙ c .if4 .left)))
 
--- src/temperature.rt:27:1
-returns-3 : tie.Need-returns-3
-returns-3 c =
-    let start = c .before .before .before .before in
-    let x = start .args .degrees in
-    sym (no-byte x (λ n h e. omega (arith, the-byte x (subst T (sym (start .good .0 .1)) tt) n h e, c .before .truncating-f32-to-u64 .ensures, c .if3 .left)))
-
--- src/temperature.rt:27:1
-returns-4 : tie.Need-returns-4
-unfolding ofBits neg ofFields odd trailingZeros
-returns-4 c =
-    let start = c .before .before in
-    let x = start .args .degrees in
-    sym (no-byte x (λ n h e. clash (lt (counted x) (fin false 1 (pos 64))) (under-most x (subst T (sym (start .good .0 .1)) tt) n h e) (c .if2 .left)))
-
--- src/temperature.rt:27:1
-returns-5 : tie.Need-returns-5
-unfolding ofBits neg ofFields odd trailingZeros
-returns-5 c =
-    let x = c .before .args .degrees in
-    sym (no-byte x (λ n h e. clash (lt (fin true 1 (pos 0)) (counted x)) (above-least x (subst T (sym (c .before .good .0 .1)) tt) n h e) (c .if1 .left)))
-
 pub to-byte-spec : {M : Type 1} → statement M
 to-byte-spec =
     tie.close
     (tie.spec
-    truncating-f32-to-u64-requires
-    cast-byte
-    celsius-requires
     returns
     returns-2
+    truncating-f32-to-u64-requires
     returns-3
+    cast-byte
+    celsius-requires
     returns-4
     returns-5)
