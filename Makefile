@@ -2,14 +2,14 @@
 # make lib    the static library for C hosts, target/libgateway.a
 # make bench  speed beside plain C at -O3
 # make run    the listing of a capture: make run < FILE; of samples/line.capture where standard input is a terminal
-# make install PREFIX=..  the program capture, the library and its header
+# make install PREFIX=..  the program capture, the library, its header and a pkg-config file
 CC = gcc
 CFLAGS = -std=c11 -O2 -Wall -Wextra -Werror -Iinclude
 PREFIX = /usr/local
 LIB = target/libgateway.a
 CAPTURE = target/bin/capture
 TESTS = $(patsubst tests/c/%.c,target/tests/%,$(wildcard tests/c/*.c))
-BENCHES = $(patsubst bench/%.c,target/bench/%,$(wildcard bench/*.c))
+BENCHES = $(patsubst bench/%.c,target/bench/%,$(filter-out bench/stack.c,$(wildcard bench/*.c)) bench/stack.c)
 
 .PHONY: test lib bench ctest run install clean
 
@@ -31,7 +31,7 @@ target/tests/%: tests/c/%.c tests/c/check.h include/gateway.h $(LIB)
 
 target/bench/%: bench/%.c bench/bench.h include/gateway.h $(LIB)
 	@mkdir -p $(@D)
-	$(CC) $(CFLAGS) -O3 -o $@ $< $(LIB)
+	$(CC) $(CFLAGS) -O3 -o $@ $< $(LIB) -lpthread
 
 bench: $(BENCHES)
 	@bench/run $(BENCHES)
@@ -47,6 +47,8 @@ install: $(CAPTURE) $(LIB)
 	install -D -m 755 $(CAPTURE) $(DESTDIR)$(PREFIX)/bin/capture
 	install -D -m 644 $(LIB) $(DESTDIR)$(PREFIX)/lib/libgateway.a
 	install -D -m 644 include/gateway.h $(DESTDIR)$(PREFIX)/include/gateway.h
+	install -d $(DESTDIR)$(PREFIX)/lib/pkgconfig
+	sed 's|@PREFIX@|$(abspath $(PREFIX))|' include/gateway.pc.in >$(DESTDIR)$(PREFIX)/lib/pkgconfig/gateway.pc
 
 clean:
 	rm -rf target
