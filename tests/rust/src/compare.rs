@@ -1,0 +1,440 @@
+//! One comparison for each call: document 01's answer and memory beside the library's.
+
+use crate::calls::{self, Setpoints};
+use crate::guard::{self, Lent, Region};
+use crate::paper::{self, Answer};
+use crate::random::Random;
+
+#[derive(Clone, Copy)]
+pub enum Call {
+    FrameRead,
+    FrameWrite,
+    MessageRead,
+    MessageWrite,
+    Zone,
+    Event,
+    TextMessage,
+    Command,
+    LogEntry,
+    ReadAtThermostat,
+    ReadAtHost,
+    WriteToThermostat,
+    WriteToHost,
+    Step,
+    Celsius,
+    FahrenheitTenths,
+    SetpointsFromBytes,
+    SetpointsToBytes,
+    Cost,
+    TallyAdd,
+    X10Read,
+    X10WriteUnit,
+    X10WriteFunction,
+    X10WriteExtended,
+    Listing,
+}
+
+const MESSAGE_READER: &[u8] = &[1, 2, 3, 4, 5, 6, 7, 8];
+const OMNISTAT_READER: &[u8] = &[1, 2, 4, 5, 6, 7, 8];
+
+/// The calls in the order of `Call`, each with the refusals that document 01 names for it.
+pub const CALLS: [(&str, &[u8]); 25] = [
+    ("omnilink_frame_read", &[1, 2, 3, 4, 5]),
+    ("omnilink_frame_write", &[3, 9]),
+    ("omnilink_message_read", MESSAGE_READER),
+    ("omnilink_message_write", &[6, 7, 8, 9]),
+    ("omnilink_zone", MESSAGE_READER),
+    ("omnilink_event", MESSAGE_READER),
+    ("omnilink_text_message", MESSAGE_READER),
+    ("omnilink_command", MESSAGE_READER),
+    ("omnilink_log_entry", MESSAGE_READER),
+    ("omnistat_read_at_thermostat", OMNISTAT_READER),
+    ("omnistat_read_at_host", OMNISTAT_READER),
+    ("omnistat_write_to_thermostat", &[6, 7, 8, 9]),
+    ("omnistat_write_to_host", &[6, 7, 8, 9]),
+    ("thermostat_step", &[1, 2, 4, 5, 6, 7, 8, 9]),
+    ("temperature_celsius", &[]),
+    ("temperature_fahrenheit_tenths", &[]),
+    ("setpoints_from_bytes", &[]),
+    ("setpoints_to_bytes", &[8]),
+    ("cost_millionths", &[10]),
+    ("tally_add", &[10, 11]),
+    ("x10_read", &[1, 2, 4, 5, 6, 8]),
+    ("x10_write_unit", &[8, 9]),
+    ("x10_write_function", &[6, 8, 9]),
+    ("x10_write_extended", &[8, 9]),
+    ("capture_listing", &[3, 9]),
+];
+
+/// How many disagreements are printed.
+const SHOWN: u64 = 20;
+/// More than any room that is lent.
+const PRIOR: usize = 96 * 1024;
+
+pub struct Compare {
+    input: Region,
+    output: Region,
+    map: Region,
+    random: Random,
+    /// Where the content of a lent output before the call is taken from.
+    prior: Vec<u8>,
+    /// For each call, how often each answer number was the right one.
+    pub counts: [[u64; 12]; CALLS.len()],
+    pub passed: u64,
+    pub failed: u64,
+}
+
+/// An answer as a number: the fields above the low byte, the first lowest.
+fn packed<const N: usize>(answer: Answer<[u8; N]>) -> u64 {
+    let above = |n, &field: &u8| (n << 8) + u64::from(field);
+    valued(answer.map(|fields| fields.iter().rev().fold(0, above)))
+}
+
+fn valued(answer: Answer<u64>) -> u64 {
+    match answer {
+        Ok(value) => value << 8,
+        Err(number) => u64::from(number),
+    }
+}
+
+fn hex(bytes: &[u8]) -> String {
+    bytes.iter().map(|byte| format!("{byte:02X}")).collect()
+}
+
+impl Compare {
+    pub fn new(seed: u64) -> Compare {
+        let mut random = Random::new(seed);
+        Compare {
+            input: Region::new(4, random.next()),
+            output: Region::new(PRIOR / 4096 + 1, random.next()),
+            map: Region::new(1, random.next()),
+            prior: random.bytes(PRIOR),
+            random,
+            counts: [[0; 12]; CALLS.len()],
+            passed: 0,
+            failed: 0,
+        }
+    }
+
+    /// Goes on with another seed.
+    pub fn reseed(&mut self, seed: u64) {
+        self.random = Random::new(seed);
+        self.prior = self.random.bytes(PRIOR);
+    }
+
+    fn judge(&mut self, call: Call, right: u64, agrees: bool, tell: impl FnOnce() -> String) {
+        self.counts[call as usize][(right & 0xFF) as usize] += 1;
+        if agrees {
+            self.passed += 1;
+            return;
+        }
+        self.failed += 1;
+        if self.failed <= SHOWN {
+            println!("{}: {}", CALLS[call as usize].0, tell());
+        }
+    }
+
+    /// A fact about document 01's own examples.
+    pub fn fact(&mut self, what: &str, holds: bool) {
+        if holds {
+            self.passed += 1;
+        } else {
+            self.failed += 1;
+            println!("document 01: {what}");
+        }
+    }
+
+    /// A call that only reads a buffer.
+    fn reads(&mut self, call: Call, bytes: &[u8], right: u64, run: impl FnOnce(Lent) -> u64) {
+        let lent = self.input.lend(bytes);
+        guard::announce(CALLS[call as usize].0, lent, self.passed, self.failed);
+        let got = run(lent);
+        let kept = self.input.holds(lent, bytes, &[]);
+        self.judge(call, right, got == right && kept, || {
+            let note = if kept { "" } else { ", input changed" };
+            format!(
+                "input {}, expected {right:#X}, got {got:#X}{note}",
+                hex(bytes)
+            )
+        });
+    }
+
+    /// A call that reads a buffer and writes to another one of `room` bytes.
+    fn writes(
+        &mut self,
+        call: Call,
+        (numbers, bytes): (&[u8], &[u8]),
+        room: usize,
+        right: Answer<Vec<u8>>,
+        run: impl FnOnce(Lent, Lent) -> u64,
+    ) {
+        let from = self.random.below(PRIOR - room + 1);
+        let prior = &self.prior[from..from + room];
+        let lent = self.input.lend(bytes);
+        let out = self.output.lend(prior);
+        guard::announce(CALLS[call as usize].0, lent, self.passed, self.failed);
+        let got = run(lent, out);
+        let written = right.as_deref().unwrap_or(&[]);
+        let right = valued(right.as_ref().map(|w| w.len() as u64).map_err(|&n| n));
+        let same = self.output.holds(out, written, &prior[written.len()..])
+            && self.input.holds(lent, bytes, &[]);
+        let agrees = got == right && same;
+        let told = if agrees {
+            String::new()
+        } else {
+            let after = self.output.content(out);
+            let (numbers, input) = (hex(numbers), hex(bytes));
+            let (prior, written, after) = (hex(prior), hex(written), hex(&after));
+            format!(
+                "numbers {numbers}, input {input}, output before {prior}, expected {right:#X} {written}, got {got:#X}, output {after}"
+            )
+        };
+        self.judge(call, right, agrees, || told);
+    }
+
+    pub fn frame_read(&mut self, bytes: &[u8]) {
+        let right = paper::frame_read(bytes).map(|(kind, data)| [kind, data.len() as u8]);
+        let right = packed(right);
+        self.reads(Call::FrameRead, bytes, right, calls::omnilink_frame_read);
+    }
+
+    pub fn frame_write(&mut self, kind: u8, data: &[u8], room: usize) {
+        let right = paper::frame_write(kind, data, room);
+        self.writes(Call::FrameWrite, (&[kind], data), room, right, |d, out| {
+            calls::omnilink_frame_write(kind, d, out)
+        });
+    }
+
+    pub fn message_read(&mut self, bytes: &[u8]) {
+        let right = paper::message_read(bytes)
+            .map(|(kind, data)| u64::from(kind) + 256 * paper::items(kind, data) as u64);
+        self.reads(
+            Call::MessageRead,
+            bytes,
+            valued(right),
+            calls::omnilink_message_read,
+        );
+    }
+
+    pub fn message_write(&mut self, kind: u8, data: &[u8], room: usize) {
+        let right = paper::message_write(kind, data, room);
+        self.writes(
+            Call::MessageWrite,
+            (&[kind], data),
+            room,
+            right,
+            |d, out| calls::omnilink_message_write(kind, d, out),
+        );
+    }
+
+    pub fn zone(&mut self, bytes: &[u8], i: usize) {
+        let right = paper::zone(bytes, i);
+        let right = packed(right);
+        self.reads(Call::Zone, bytes, right, |b| calls::omnilink_zone(b, i));
+    }
+
+    pub fn event(&mut self, bytes: &[u8], i: usize) {
+        let right = valued(paper::event(bytes, i).map(u64::from));
+        self.reads(Call::Event, bytes, right, |b| calls::omnilink_event(b, i));
+    }
+
+    pub fn text_message(&mut self, bytes: &[u8], i: usize) {
+        let right = paper::text_message(bytes, i);
+        let right = packed(right);
+        self.reads(Call::TextMessage, bytes, right, |b| {
+            calls::omnilink_text_message(b, i)
+        });
+    }
+
+    pub fn command(&mut self, bytes: &[u8]) {
+        let right = paper::command_read(bytes).map(|([command, unit, count], p2)| {
+            [command, unit, count, (p2 % 256) as u8, (p2 / 256) as u8]
+        });
+        let right = packed(right);
+        self.reads(Call::Command, bytes, right, calls::omnilink_command);
+    }
+
+    pub fn log_entry(&mut self, bytes: &[u8], field: usize) {
+        let right = valued(paper::log_entry(bytes, field).map(u64::from));
+        self.reads(Call::LogEntry, bytes, right, |b| {
+            calls::omnilink_log_entry(b, field)
+        });
+    }
+
+    /// All calls that read an Omni-Link message.
+    pub fn message_calls(&mut self, bytes: &[u8], i: usize) {
+        self.message_read(bytes);
+        self.zone(bytes, i);
+        self.event(bytes, i);
+        self.text_message(bytes, i);
+        self.command(bytes);
+        self.log_entry(bytes, i);
+    }
+
+    pub fn read_at_thermostat(&mut self, bytes: &[u8]) {
+        let right = paper::read_at_thermostat(bytes).map(|(first, kind, data)| match kind {
+            0 => [kind, first, data[0], data[1]],
+            1 => [kind, first, data[0], data.len() as u8 - 1],
+            _ => [kind, first, 0, 0],
+        });
+        let right = packed(right);
+        self.reads(
+            Call::ReadAtThermostat,
+            bytes,
+            right,
+            calls::omnistat_read_at_thermostat,
+        );
+    }
+
+    pub fn read_at_host(&mut self, bytes: &[u8]) {
+        let right = paper::read_at_host(bytes).map(|(number, kind, data)| match kind {
+            0 | 1 => [kind, number, 0, 0],
+            2 => [kind, number, data[0], data.len() as u8 - 1],
+            _ => [kind, number, 0, data.len() as u8],
+        });
+        let right = packed(right);
+        self.reads(Call::ReadAtHost, bytes, right, calls::omnistat_read_at_host);
+    }
+
+    pub fn write_to_thermostat(&mut self, address: u8, kind: u8, data: &[u8], room: usize) {
+        let right = paper::write_to_thermostat(address, kind, data, room);
+        let arguments = (&[address, kind][..], data);
+        self.writes(Call::WriteToThermostat, arguments, room, right, |d, out| {
+            calls::omnistat_write_to_thermostat(address, kind, d, out)
+        });
+    }
+
+    pub fn write_to_host(&mut self, number: u8, kind: u8, data: &[u8], room: usize) {
+        let right = paper::write_to_host(number, kind, data, room);
+        let arguments = (&[number, kind][..], data);
+        self.writes(Call::WriteToHost, arguments, room, right, |d, out| {
+            calls::omnistat_write_to_host(number, kind, d, out)
+        });
+    }
+
+    /// A step; `map` is changed as document 01 says.
+    pub fn step(&mut self, own: u8, map: &mut [u8], bytes: &[u8], room: usize) {
+        let from = self.random.below(PRIOR - room + 1);
+        let prior = &self.prior[from..from + room];
+        let lent = self.input.lend(bytes);
+        let out = self.output.lend(prior);
+        let lent_map = self.map.lend(map);
+        guard::announce(CALLS[Call::Step as usize].0, lent, self.passed, self.failed);
+        let right = paper::step(own, map, bytes, room);
+        let got = calls::thermostat_step(own, lent_map, lent, out);
+        let written = right.as_deref().unwrap_or(&[]);
+        let right = valued(right.as_ref().map(|w| w.len() as u64).map_err(|&n| n));
+        let replied = self.output.holds(out, written, &prior[written.len()..]);
+        let stored = self.map.holds(lent_map, map, &[]) && self.input.holds(lent, bytes, &[]);
+        self.judge(Call::Step, right, got == right && replied && stored, || {
+            format!(
+                "own {own}, input {}, room {room}, expected {right:#X} {}, got {got:#X}, reply right {replied}, map right {stored}",
+                hex(bytes),
+                hex(written)
+            )
+        });
+    }
+
+    pub fn temperature(&mut self, byte: u8) {
+        let (right, got) = (paper::celsius(byte), calls::temperature_celsius(byte));
+        let same = got.to_bits() == right.to_bits();
+        self.judge(Call::Celsius, 0, same, || {
+            format!("byte {byte}, expected {right}, got {got}")
+        });
+        let right = paper::fahrenheit_tenths(byte);
+        let got = calls::temperature_fahrenheit_tenths(byte);
+        self.judge(Call::FahrenheitTenths, 0, got == right, || {
+            format!("byte {byte}, expected {right}, got {got}")
+        });
+    }
+
+    pub fn setpoints_from_bytes(&mut self, cool: u8, heat: u8) {
+        let right = (paper::celsius(cool), paper::celsius(heat));
+        let got = calls::setpoints_from_bytes(cool, heat);
+        let same =
+            (got.cool.to_bits(), got.heat.to_bits()) == (right.0.to_bits(), right.1.to_bits());
+        self.judge(Call::SetpointsFromBytes, 0, same, || {
+            format!("bytes {cool} {heat}, expected {right:?}, got {got:?}")
+        });
+    }
+
+    pub fn setpoints_to_bytes(&mut self, cool: f32, heat: f32) {
+        let right = paper::setpoint_byte(cool)
+            .and_then(|cool| paper::setpoint_byte(heat).map(|heat| [cool, heat]));
+        let right = packed(right);
+        let got = calls::setpoints_to_bytes(Setpoints { cool, heat });
+        self.judge(Call::SetpointsToBytes, right, got == right, || {
+            let bits = (cool.to_bits(), heat.to_bits());
+            format!("{cool} {heat}, bits {bits:X?}, expected {right:#X}, got {got:#X}")
+        });
+    }
+
+    pub fn cost(&mut self, word: u16) {
+        let right = valued(paper::cost(word));
+        let got = calls::cost_millionths(word);
+        self.judge(Call::Cost, right, got == right, || {
+            format!("word {word}, expected {right:#X}, got {got:#X}")
+        });
+    }
+
+    /// Adds a word; gives the total that document 01 asks for.
+    pub fn tally_add(&mut self, total: u64, word: u16) -> u64 {
+        let lent = self.map.lend_aligned(&total.to_ne_bytes(), 8);
+        guard::announce(
+            CALLS[Call::TallyAdd as usize].0,
+            lent,
+            self.passed,
+            self.failed,
+        );
+        let got = calls::tally_add(lent, word);
+        let right = paper::tally(total, word);
+        let after = right.unwrap_or(total);
+        let right = valued(right.map(|_| 0));
+        let kept = self.map.holds(lent, &after.to_ne_bytes(), &[]);
+        self.judge(Call::TallyAdd, right, got == right && kept, || {
+            format!("total {total}, word {word}, expected {right} and {after}, got {got}, total right {kept}")
+        });
+        after
+    }
+
+    pub fn x10_read(&mut self, places: &[u8]) {
+        let right = paper::x10_read(places);
+        let right = packed(right);
+        self.reads(Call::X10Read, places, right, calls::x10_read);
+    }
+
+    pub fn x10_write_unit(&mut self, house: u8, unit: u8, room: usize) {
+        let right = paper::x10_write_unit(house, unit, room);
+        let arguments = (&[house, unit][..], &[][..]);
+        self.writes(Call::X10WriteUnit, arguments, room, right, |_, out| {
+            calls::x10_write_unit(house, unit, out)
+        });
+    }
+
+    pub fn x10_write_function(&mut self, house: u8, code: u8, room: usize) {
+        let right = paper::x10_write_function(house, code, room);
+        let arguments = (&[house, code][..], &[][..]);
+        self.writes(Call::X10WriteFunction, arguments, room, right, |_, out| {
+            calls::x10_write_function(house, code, out)
+        });
+    }
+
+    pub fn x10_write_extended(&mut self, [house, unit, data, command]: [u8; 4], room: usize) {
+        let right = paper::x10_write_extended(house, unit, data, command, room);
+        let arguments = (&[house, unit, data, command][..], &[][..]);
+        self.writes(Call::X10WriteExtended, arguments, room, right, |_, out| {
+            calls::x10_write_extended(house, unit, data, command, out)
+        });
+    }
+
+    pub fn listing(&mut self, bytes: &[u8], room: usize) {
+        let right = paper::listing(bytes, room);
+        self.writes(
+            Call::Listing,
+            (&[], bytes),
+            room,
+            right,
+            calls::capture_listing,
+        );
+    }
+}

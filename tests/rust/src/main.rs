@@ -1,0 +1,126 @@
+//! Compares every call of include/gateway.h with document 01, written once more from the paper.
+//!
+//! --seed N     only this seed
+//! --seconds N  random inputs for N seconds, in place of a fixed count
+
+mod calls;
+mod compare;
+mod guard;
+mod inputs;
+mod paper;
+mod random;
+mod sweeps;
+
+use compare::{Compare, CALLS};
+use random::Random;
+use std::process::ExitCode;
+use std::time::{Duration, Instant, SystemTime, UNIX_EPOCH};
+
+const SEEDS: [u64; 3] = [1, 2, 3];
+/// Rounds of random inputs for each seed where no time is given.
+const ROUNDS: u64 = 60_000;
+/// One round in this many also lists captures.
+const LISTING: u64 = 64;
+
+struct Arguments {
+    seed: Option<u64>,
+    seconds: Option<u64>,
+}
+
+fn arguments() -> Option<Arguments> {
+    let mut found = Arguments {
+        seed: None,
+        seconds: None,
+    };
+    let mut words = std::env::args().skip(1);
+    while let Some(word) = words.next() {
+        let number = words.next()?.parse().ok()?;
+        match word.as_str() {
+            "--seed" => found.seed = Some(number),
+            "--seconds" => found.seconds = Some(number),
+            _ => return None,
+        }
+    }
+    Some(found)
+}
+
+/// A seed that is new in each run.
+fn clock() -> u64 {
+    let now = SystemTime::now().duration_since(UNIX_EPOCH);
+    now.map_or(0, |since| since.as_nanos() as u64)
+}
+
+fn seeds(arguments: &Arguments) -> Vec<u64> {
+    match (arguments.seed, arguments.seconds) {
+        (Some(seed), _) => vec![seed],
+        (None, Some(_)) => vec![clock()],
+        (None, None) => SEEDS.into_iter().chain([clock()]).collect(),
+    }
+}
+
+fn random_part(compare: &mut Compare, random: &mut Random, seconds: Option<u64>) {
+    let start = Instant::now();
+    let over = |round| match seconds {
+        Some(seconds) => start.elapsed() >= Duration::from_secs(seconds),
+        None => round >= ROUNDS,
+    };
+    let mut map = random.bytes(256);
+    let mut round = 0;
+    while !over(round) {
+        for _ in 0..LISTING {
+            inputs::round(compare, random, &mut map);
+        }
+        let size = random.pick(&[0, 10, 100, 400]);
+        let size = random.from(size, size + 100);
+        inputs::listings(compare, random, size);
+        round += LISTING;
+    }
+}
+
+/// Prints what was met of each call; gives how many answers were never met.
+fn table(compare: &Compare) -> usize {
+    let mut missing = 0;
+    println!(
+        "{:<30} {:>11} {:>9}  refused",
+        "call", "compared", "accepted"
+    );
+    for ((name, refusals), counts) in CALLS.iter().zip(&compare.counts) {
+        let total: u64 = counts.iter().sum();
+        print!("{name:<30} {total:>11} {:>9} ", counts[0]);
+        for &number in *refusals {
+            print!(" {number}:{}", counts[usize::from(number)]);
+        }
+        println!();
+        let met = |number: &u8| counts[usize::from(*number)] > 0;
+        for number in [0].iter().chain(*refusals).filter(|n| !met(n)) {
+            println!("{name}: answer {number} was never met");
+            missing += 1;
+        }
+    }
+    missing
+}
+
+fn main() -> ExitCode {
+    let Some(arguments) = arguments() else {
+        eprintln!("usage: outside [--seed N] [--seconds N]");
+        return ExitCode::from(2);
+    };
+    guard::report_faults();
+    let start = Instant::now();
+    let seeds = seeds(&arguments);
+    let mut compare = Compare::new(seeds[0]);
+    sweeps::all(&mut compare, &mut Random::new(seeds[0]));
+    println!("in order: {} compared", compare.passed + compare.failed);
+    for seed in seeds {
+        println!("seed {seed}");
+        compare.reseed(seed);
+        random_part(&mut compare, &mut Random::new(seed), arguments.seconds);
+    }
+    let missing = table(&compare);
+    println!("{:.1} seconds", start.elapsed().as_secs_f64());
+    println!("{} passed, {} failed", compare.passed, compare.failed);
+    if compare.failed > 0 || missing > 0 {
+        return ExitCode::FAILURE;
+    }
+    ExitCode::SUCCESS
+}

@@ -1,0 +1,553 @@
+//! Document 01 in the plainest form, in its order: what each call has to answer and to leave in lent memory.
+
+/// What a call gives back, or the number of its refusal.
+pub type Answer<T> = Result<T, u8>;
+
+// Answer numbers.
+const SHORT: u8 = 1;
+const START: u8 = 2;
+const LENGTH: u8 = 3;
+const LONG: u8 = 4;
+const CHECKSUM: u8 = 5;
+const UNKNOWN: u8 = 6;
+const TYPE_LENGTH: u8 = 7;
+const FIELD: u8 = 8;
+const ROOM: u8 = 9;
+const COST_WORD: u8 = 10;
+const TOTAL: u8 = 11;
+
+fn require(condition: bool, number: u8) -> Answer<()> {
+    if condition {
+        Ok(())
+    } else {
+        Err(number)
+    }
+}
+
+// Answer numbers: 9, the last check of every writer.
+fn fit(written: Vec<u8>, room: usize) -> Answer<Vec<u8>> {
+    require(written.len() <= room, ROOM)?;
+    Ok(written)
+}
+
+// Omni-Link frames: the CRC, one bit at a time, lowest first.
+pub fn crc(bytes: &[u8]) -> u16 {
+    let mut register = 0u16;
+    for byte in bytes {
+        for k in 0..8 {
+            let bit = u16::from(byte >> k & 1);
+            let out = register & 1 ^ bit;
+            register >>= 1;
+            if out == 1 {
+                register ^= 0xA001; // x^15, x^2 and 1, turned round
+            }
+        }
+    }
+    register
+}
+
+// Omni-Link frames: reading. Gives the type and the data bytes.
+pub fn frame_read(bytes: &[u8]) -> Answer<(u8, &[u8])> {
+    require(!bytes.is_empty(), SHORT)?;
+    require(bytes[0] == 0x5A, START)?;
+    require(bytes.len() > 1, SHORT)?;
+    require((0x01..=0x41).contains(&bytes[1]), LENGTH)?;
+    let length = usize::from(bytes[1]);
+    require(bytes.len() >= length + 4, SHORT)?;
+    require(bytes.len() <= length + 4, LONG)?;
+    let sent = u16::from(bytes[length + 2]) + 256 * u16::from(bytes[length + 3]);
+    require(crc(&bytes[1..length + 2]) == sent, CHECKSUM)?;
+    Ok((bytes[2], &bytes[3..length + 2]))
+}
+
+// Omni-Link frames: the bytes of a frame.
+pub fn frame(kind: u8, data: &[u8]) -> Vec<u8> {
+    let mut bytes = vec![0x5A, data.len() as u8 + 1, kind];
+    bytes.extend(data);
+    let crc = crc(&bytes[1..]);
+    bytes.push((crc % 256) as u8);
+    bytes.push((crc / 256) as u8);
+    bytes
+}
+
+// Omni-Link frames: writing.
+pub fn frame_write(kind: u8, data: &[u8], room: usize) -> Answer<Vec<u8>> {
+    require(data.len() <= 64, LENGTH)?;
+    fit(frame(kind, data), room)
+}
+
+// Omni-Link messages: 6, 7, 8 of a type and its data bytes.
+pub fn message_check(kind: u8, data: &[u8]) -> Answer<()> {
+    let length = data.len() + 1;
+    let pairs = length % 2 == 1 && length <= 2 * 32 + 1;
+    match kind {
+        0x05 | 0x06 | 0x0D | 0x11 | 0x13 | 0x21 | 0x22 => require(length == 1, TYPE_LENGTH),
+        0x20 => {
+            require(length == 5, TYPE_LENGTH)?;
+            require(data.iter().all(|&digit| digit <= 9), FIELD)
+        }
+        0x15 => {
+            require(length == 3, TYPE_LENGTH)?;
+            require(1 <= data[0] && data[0] <= data[1], FIELD)
+        }
+        0x16 => {
+            require(pairs && length >= 3, TYPE_LENGTH)?;
+            require(data.iter().step_by(2).all(|&s| zone_status(s)), FIELD)
+        }
+        0x23 => require(pairs, TYPE_LENGTH),
+        0x25 => {
+            require(matches!(length, 0x06 | 0x12 | 0x22), TYPE_LENGTH)?;
+            require(data[0] == 0, FIELD)
+        }
+        0x0E => {
+            require(length == 0x0B, TYPE_LENGTH)?;
+            require(data[0] >= 1 && (data[1] == 0 || calendar(data)), FIELD)
+        }
+        0x0F => {
+            require(length == 5, TYPE_LENGTH)?;
+            require(command(data).is_some(), FIELD)
+        }
+        _ => Err(UNKNOWN),
+    }
+}
+
+fn zone_status(status: u8) -> bool {
+    status % 4 != 3 && status / 4 % 4 != 3 && status < 128
+}
+
+fn calendar(data: &[u8]) -> bool {
+    let (month, day, hour, minute) = (data[2], data[3], data[4], data[5]);
+    (1..=12).contains(&month) && (1..=31).contains(&day) && hour <= 23 && minute <= 59
+}
+
+// Omni-Link messages: type 0F. Gives the unit of the duration and the count, unless a field is outside its list.
+fn command(data: &[u8]) -> Option<(u8, u8)> {
+    let p1 = data[1];
+    let some_p2 = (data[2], data[3]) != (0, 0);
+    match (data[0], p1) {
+        (0 | 1, 0) if some_p2 => Some((0, 0)),
+        (0 | 1, 1..=99) if some_p2 => Some((1, p1)),
+        (0 | 1, 101..=199) if some_p2 => Some((2, p1 - 100)),
+        (0 | 1, 201..=218) if some_p2 => Some((3, p1 - 200)),
+        (2 | 3, 0) => Some((0, 0)),
+        (9, 0..=100) if some_p2 => Some((0, p1)),
+        (10 | 11, 0) if some_p2 => Some((0, 0)),
+        (12, _) if some_p2 => Some((0, p1)),
+        _ => None,
+    }
+}
+
+// Omni-Link messages: reading. Gives the type and the data bytes.
+pub fn message_read(bytes: &[u8]) -> Answer<(u8, &[u8])> {
+    let (kind, data) = frame_read(bytes)?;
+    message_check(kind, data)?;
+    Ok((kind, data))
+}
+
+// Omni-Link messages: how many zones, events or text messages.
+pub fn items(kind: u8, data: &[u8]) -> usize {
+    match kind {
+        0x16 | 0x23 => data.len() / 2,
+        0x25 => 4 * (data.len() - 1),
+        _ => 0,
+    }
+}
+
+// Omni-Link messages: writing.
+pub fn message_write(kind: u8, data: &[u8], room: usize) -> Answer<Vec<u8>> {
+    message_check(kind, data)?;
+    fit(frame(kind, data), room)
+}
+
+fn message_of(own: u8, bytes: &[u8]) -> Answer<&[u8]> {
+    let (kind, data) = message_read(bytes)?;
+    require(kind == own, UNKNOWN)?;
+    Ok(data)
+}
+
+// Omni-Link messages: type 16. Condition, latched alarm, arming, unacknowledged trouble, loop reading.
+pub fn zone(bytes: &[u8], i: usize) -> Answer<[u8; 5]> {
+    let data = message_of(0x16, bytes)?;
+    require(i < items(0x16, data), FIELD)?;
+    let status = data[2 * i];
+    let (condition, alarm) = (status % 4, status / 4 % 4);
+    let (arming, trouble) = (status / 16 % 4, status / 64 % 2);
+    Ok([condition, alarm, arming, trouble, data[2 * i + 1]])
+}
+
+// Omni-Link messages: type 23, high byte first.
+pub fn event(bytes: &[u8], i: usize) -> Answer<u16> {
+    let data = message_of(0x23, bytes)?;
+    require(i < items(0x23, data), FIELD)?;
+    Ok(256 * u16::from(data[2 * i]) + u16::from(data[2 * i + 1]))
+}
+
+// Omni-Link messages: type 25, from the two high bits down. Displayed, not acknowledged.
+pub fn text_message(bytes: &[u8], i: usize) -> Answer<[u8; 2]> {
+    let data = message_of(0x25, bytes)?;
+    require(i < items(0x25, data), FIELD)?;
+    let two = data[1 + i / 4] / [64, 16, 4, 1][i % 4] % 4;
+    Ok([two % 2, two / 2])
+}
+
+// Omni-Link messages: type 0F. Command, unit of the duration, count, P2.
+pub fn command_read(bytes: &[u8]) -> Answer<([u8; 3], u16)> {
+    let data = message_of(0x0F, bytes)?;
+    let (unit, count) = command(data).ok_or(FIELD)?;
+    let p2 = 256 * u16::from(data[2]) + u16::from(data[3]);
+    Ok(([data[0], unit, count], p2))
+}
+
+// Omni-Link messages: type 0E. Fields 0 to 7 are bytes, field 8 is parameter 2.
+pub fn log_entry(bytes: &[u8], field: usize) -> Answer<u16> {
+    let data = message_of(0x0E, bytes)?;
+    match field {
+        0..=7 => Ok(u16::from(data[field])),
+        8 => Ok(256 * u16::from(data[8]) + u16::from(data[9])),
+        _ => Err(FIELD),
+    }
+}
+
+/// An Omnistat2 message: its first byte, its type and its data bytes.
+pub type Omnistat<'a> = (u8, u8, &'a [u8]);
+
+// Omnistat2 messages: the order of checks up to the sum.
+fn omnistat_read(direction: fn(u8) -> bool, bytes: &[u8]) -> Answer<Omnistat<'_>> {
+    require(!bytes.is_empty(), SHORT)?;
+    require(direction(bytes[0]), START)?;
+    require(bytes.len() > 1, SHORT)?;
+    let n = usize::from(bytes[1] / 16);
+    require(bytes.len() >= n + 3, SHORT)?;
+    require(bytes.len() <= n + 3, LONG)?;
+    require(sum(&bytes[..n + 2]) == bytes[n + 2], CHECKSUM)?;
+    Ok((bytes[0], bytes[1] % 16, &bytes[2..n + 2]))
+}
+
+fn sum(bytes: &[u8]) -> u8 {
+    let sum: u32 = bytes.iter().map(|&byte| u32::from(byte)).sum();
+    (sum % 256) as u8
+}
+
+fn to_thermostat(first: u8) -> bool {
+    matches!(first, 0x00 | 0x01..=0x7F | 0xFA)
+}
+
+fn to_host(first: u8) -> bool {
+    (0x81..=0xFF).contains(&first)
+}
+
+// Omnistat2 messages: a run of registers ends at or below 255 and meets no text register.
+fn run(start: u8, count: usize) -> Answer<()> {
+    let registers = usize::from(start)..usize::from(start) + count;
+    require(
+        registers
+            .clone()
+            .all(|r| r <= 255 && !(172..=181).contains(&r)),
+        FIELD,
+    )
+}
+
+// Omnistat2 messages: 6, 7, 8 of a message from the host.
+fn from_host(kind: u8, data: &[u8]) -> Answer<()> {
+    match kind {
+        0 => {
+            require(data.len() == 2, TYPE_LENGTH)?;
+            require((1..=14).contains(&data[1]), FIELD)?;
+            run(data[0], usize::from(data[1]))
+        }
+        1 => {
+            require((2..=15).contains(&data.len()), TYPE_LENGTH)?;
+            run(data[0], data.len() - 1)
+        }
+        2..=4 => require(data.is_empty(), TYPE_LENGTH),
+        _ => Err(UNKNOWN),
+    }
+}
+
+// Omnistat2 messages: 6, 7, 8 of a reply.
+fn reply(kind: u8, data: &[u8]) -> Answer<()> {
+    match kind {
+        0 | 1 => require(data.is_empty(), TYPE_LENGTH),
+        2 => {
+            require((2..=15).contains(&data.len()), TYPE_LENGTH)?;
+            run(data[0], data.len() - 1)
+        }
+        3 | 4 => require(data.len() == 6, TYPE_LENGTH),
+        5 => require(data.len() == 10, TYPE_LENGTH),
+        _ => Err(UNKNOWN),
+    }
+}
+
+// Omnistat2 messages: reading at the thermostat.
+pub fn read_at_thermostat(bytes: &[u8]) -> Answer<Omnistat<'_>> {
+    let (first, kind, data) = omnistat_read(to_thermostat, bytes)?;
+    from_host(kind, data)?;
+    Ok((first, kind, data))
+}
+
+// Omnistat2 messages: reading at the host. Gives the number of the thermostat in place of the first byte.
+pub fn read_at_host(bytes: &[u8]) -> Answer<Omnistat<'_>> {
+    let (first, kind, data) = omnistat_read(to_host, bytes)?;
+    reply(kind, data)?;
+    Ok((first - 0x80, kind, data))
+}
+
+// Omnistat2 messages: the bytes of a message.
+pub fn omnistat(first: u8, kind: u8, data: &[u8]) -> Vec<u8> {
+    let mut bytes = vec![first, data.len() as u8 * 16 + kind];
+    bytes.extend(data);
+    bytes.push(sum(&bytes));
+    bytes
+}
+
+// Omnistat2 messages: writing to a thermostat. A wrong address is 8.
+pub fn write_to_thermostat(address: u8, kind: u8, data: &[u8], room: usize) -> Answer<Vec<u8>> {
+    from_host(kind, data)?;
+    require(to_thermostat(address), FIELD)?;
+    fit(omnistat(address, kind, data), room)
+}
+
+// Omnistat2 messages: writing to the host. A wrong number is 8.
+pub fn write_to_host(number: u8, kind: u8, data: &[u8], room: usize) -> Answer<Vec<u8>> {
+    reply(kind, data)?;
+    require((0x01..=0x7F).contains(&number), FIELD)?;
+    fit(omnistat(number + 0x80, kind, data), room)
+}
+
+// Registers: the listed ones.
+fn listed(register: u8) -> bool {
+    matches!(register, 15 | 18..=68 | 70..=122 | 131..=145 | 158..=171)
+}
+
+// Registers: whether a byte may be written.
+fn writable(register: u8, value: u8) -> bool {
+    listed(register)
+        && match register {
+            64 | 71 | 72 | 73 | 162 | 170 | 171 => false,
+            58 => value <= 6,
+            59 | 60 | 163 | 164 => (51..=91).contains(&value),
+            61 => value <= 4,
+            62 | 63 | 131 | 136 | 139 => value <= 2,
+            132 => [0, 1, 42, 54, 126].contains(&value),
+            137 => value <= 1,
+            161 => value <= 3,
+            65 | 66 => value <= 59,
+            67 => value <= 23,
+            70 => [0, 1, 2, 4].contains(&value),
+            138 => (1..=19).contains(&value),
+            140 => value <= 100,
+            141 => (1..=10).contains(&value),
+            143..=145 => (2..=30).contains(&value),
+            168 => value <= 99,
+            _ => true,
+        }
+}
+
+// The model thermostat: the groups.
+const GROUP_1: [u8; 6] = [59, 60, 61, 62, 63, 64];
+const GROUP_2: [u8; 6] = [162, 135, 134, 68, 15, 169];
+const GROUP_3: [u8; 10] = [169, 18, 19, 20, 74, 170, 171, 165, 166, 167];
+
+// The model thermostat: a step. Changes the map and gives what is sent.
+pub fn step(own: u8, map: &mut [u8], bytes: &[u8], room: usize) -> Answer<Vec<u8>> {
+    require(room >= 18 && map.len() == 256, ROOM)?;
+    require((1..=127).contains(&own), FIELD)?;
+    let (first, kind, data) = read_at_thermostat(bytes)?;
+    if first != own && first != 0x00 && first != 0xFA {
+        return Ok(Vec::new());
+    }
+    let (kind, data) = act(map, kind, data);
+    if first == 0x00 {
+        return Ok(Vec::new());
+    }
+    Ok(omnistat(own + 0x80, kind, &data))
+}
+
+// The model thermostat: what a message does to the map; gives the type and the data bytes of the reply.
+fn act(map: &mut [u8], kind: u8, data: &[u8]) -> (u8, Vec<u8>) {
+    let contents = |registers: &[u8]| registers.iter().map(|&r| map[usize::from(r)]).collect();
+    match kind {
+        0 => {
+            let registers: Vec<u8> = (data[0]..=data[0] + (data[1] - 1)).collect();
+            if !registers.iter().all(|&r| listed(r)) {
+                return (1, Vec::new());
+            }
+            let mut values: Vec<u8> = contents(&registers);
+            values.insert(0, data[0]);
+            (2, values)
+        }
+        1 => {
+            let settings = || (data[0]..=255).zip(&data[1..]);
+            if !settings().all(|(r, &value)| writable(r, value)) {
+                return (1, Vec::new());
+            }
+            settings().for_each(|(r, &value)| map[usize::from(r)] = value);
+            (0, Vec::new())
+        }
+        2 => (3, contents(&GROUP_1)),
+        3 => (4, contents(&GROUP_2)),
+        _ => (5, contents(&GROUP_3)),
+    }
+}
+
+// Temperatures: half degrees from -40 on.
+pub fn celsius(byte: u8) -> f32 {
+    f32::from(i16::from(byte) - 80) / 2.0
+}
+
+pub fn fahrenheit_tenths(byte: u8) -> i32 {
+    9 * i32::from(byte) - 400
+}
+
+// Temperatures: a setpoint back to its byte.
+pub fn setpoint_byte(degrees: f32) -> Answer<u8> {
+    let halves = f64::from(degrees) * 2.0;
+    require(
+        (-80.0..=175.0).contains(&halves) && halves.fract() == 0.0,
+        FIELD,
+    )?;
+    Ok((halves + 80.0) as u8)
+}
+
+// Cost: the value of a word in millionths.
+pub fn cost(word: u16) -> Answer<u64> {
+    require(word <= 65025, COST_WORD)?;
+    let decimals = u32::from(word / 10000);
+    Ok(u64::from(word % 10000) * 10u64.pow(6 - decimals))
+}
+
+// Cost: the total after a word.
+pub fn tally(total: u64, word: u16) -> Answer<u64> {
+    let cost = cost(word)?;
+    total.checked_add(cost).ok_or(TOTAL)
+}
+
+// X-10 patterns: houses A to P, and units 1 to 16.
+const CODES: [u8; 16] = [
+    0b0110, 0b1110, 0b0010, 0b1010, 0b0001, 0b1001, 0b0101, 0b1101, 0b0111, 0b1111, 0b0011, 0b1011,
+    0b0000, 0b1000, 0b0100, 0b1100,
+];
+const EXTENDED_1: u8 = 0b0111;
+const EXTENDED_3: u8 = 0b1010;
+const UNUSED: u8 = 0b1011;
+const EXTENDED_2: u8 = 0b1100;
+
+// X-10 patterns: which of the list a code is, from 0.
+fn code_index(code: u8) -> u8 {
+    CODES.iter().position(|&c| c == code).unwrap_or(16) as u8
+}
+
+// X-10 patterns: the number that places spell, each bit followed by its complement.
+fn spelt(places: &[u8]) -> u8 {
+    places.iter().step_by(2).fold(0, |n, &bit| 2 * n + bit)
+}
+
+fn complemented(places: &[u8]) -> bool {
+    places.chunks(2).all(|pair| pair[0] + pair[1] == 1)
+}
+
+fn zeros_and_ones(places: &[u8]) -> bool {
+    places.iter().all(|&place| place <= 1)
+}
+
+// X-10 patterns: reading. Kind, house, unit or function code, data, command.
+pub fn x10_read(places: &[u8]) -> Answer<[u8; 5]> {
+    require(places.len() >= 22, SHORT)?;
+    let standard = &places[..22];
+    require(zeros_and_ones(standard), FIELD)?;
+    require(standard[..4] == [1, 1, 1, 0], START)?;
+    require(complemented(&standard[4..]), CHECKSUM)?;
+    let house = code_index(spelt(&standard[4..12]));
+    let key = spelt(&standard[12..20]);
+    if standard[20] == 0 {
+        require(places.len() == 22, LONG)?;
+        return Ok([0, house, code_index(key) + 1, 0, 0]);
+    }
+    require(![EXTENDED_2, EXTENDED_3, UNUSED].contains(&key), UNKNOWN)?;
+    if key != EXTENDED_1 {
+        require(places.len() == 22, LONG)?;
+        return Ok([1, house, key, 0, 0]);
+    }
+    require(places.len() >= 62, SHORT)?;
+    let rest = &places[22..62];
+    require(zeros_and_ones(rest), FIELD)?;
+    require(complemented(rest), CHECKSUM)?;
+    require(places.len() == 62, LONG)?;
+    let unit = code_index(spelt(&rest[..8])) + 1;
+    Ok([2, house, unit, spelt(&rest[8..24]), spelt(&rest[24..])])
+}
+
+fn spell(places: &mut Vec<u8>, number: u8, bits: u32) {
+    for k in (0..bits).rev() {
+        let bit = number >> k & 1;
+        places.extend([bit, 1 - bit]);
+    }
+}
+
+// X-10 patterns: the 22 places of a house, a key and D16.
+pub fn x10_standard(house: u8, key: u8, d16: u8) -> Vec<u8> {
+    let mut places = vec![1, 1, 1, 0];
+    spell(&mut places, CODES[usize::from(house)], 4);
+    spell(&mut places, key, 4);
+    spell(&mut places, d16, 1);
+    places
+}
+
+// X-10 patterns: writing.
+pub fn x10_write_unit(house: u8, unit: u8, room: usize) -> Answer<Vec<u8>> {
+    require(house <= 15 && (1..=16).contains(&unit), FIELD)?;
+    fit(x10_standard(house, CODES[usize::from(unit) - 1], 0), room)
+}
+
+pub fn x10_write_function(house: u8, code: u8, room: usize) -> Answer<Vec<u8>> {
+    let unknown = [EXTENDED_1, EXTENDED_2, EXTENDED_3, UNUSED];
+    require(code <= 15 && !unknown.contains(&code), UNKNOWN)?;
+    require(house <= 15, FIELD)?;
+    fit(x10_standard(house, code, 1), room)
+}
+
+pub fn x10_write_extended(
+    house: u8,
+    unit: u8,
+    data: u8,
+    command: u8,
+    room: usize,
+) -> Answer<Vec<u8>> {
+    require(house <= 15 && (1..=16).contains(&unit), FIELD)?;
+    let mut places = x10_standard(house, EXTENDED_1, 1);
+    spell(&mut places, CODES[usize::from(unit) - 1], 4);
+    spell(&mut places, data, 8);
+    spell(&mut places, command, 8);
+    fit(places, room)
+}
+
+// The capture listing: the whole accepted frame that starts the bytes.
+fn frame_at(bytes: &[u8]) -> Option<&[u8]> {
+    let whole = usize::from(*bytes.get(1)?) + 4;
+    let bytes = bytes.get(..whole)?;
+    frame_read(bytes).is_ok().then_some(bytes)
+}
+
+// The capture listing: the text, as bytes.
+pub fn listing(bytes: &[u8], room: usize) -> Answer<Vec<u8>> {
+    require(bytes.len() <= 4096, LENGTH)?;
+    let mut text = String::new();
+    let mut noise = 0;
+    let mut at = 0;
+    while at <= bytes.len() {
+        let found = frame_at(&bytes[at..]);
+        if noise > 0 && (found.is_some() || at == bytes.len()) {
+            text += &format!("noise {} {noise}\n", at - noise);
+            noise = 0;
+        }
+        if let Some(frame) = found {
+            text += &format!("frame {at} {} {}\n", frame.len(), frame[2]);
+            at += frame.len();
+        } else {
+            noise += 1;
+            at += 1;
+        }
+    }
+    text += &format!("end {}\n", bytes.len());
+    fit(text.into_bytes(), room)
+}
