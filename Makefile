@@ -1,6 +1,7 @@
 # make test   prove everything from nothing, then the tests from outside
 # make lib    the static library for C hosts, target/libgateway.a
 # make bench  speed beside plain C at -O3
+# make fuzz SECONDS=..    the comparison with an independent implementation, on random inputs for so long
 # make demo   the example gateway, examples/gateway.c, over two pseudo-terminals
 # make run    the listing of a capture: make run < FILE; of samples/line.capture where standard input is a terminal
 # make install PREFIX=..  the program capture, the library, its header and a pkg-config file
@@ -12,7 +13,7 @@ CAPTURE = target/bin/capture
 TESTS = $(patsubst tests/c/%.c,target/tests/%,$(wildcard tests/c/*.c))
 BENCHES = $(patsubst bench/%.c,target/bench/%,$(filter-out bench/stack.c,$(wildcard bench/*.c)) bench/stack.c)
 
-.PHONY: test lib bench ctest demo run install clean
+.PHONY: test lib bench ctest outside fuzz demo run install clean
 
 test:
 	@tests/run
@@ -29,6 +30,16 @@ ctest: $(TESTS)
 target/tests/%: tests/c/%.c tests/c/check.h include/gateway.h $(LIB)
 	@mkdir -p $(@D)
 	$(CC) $(CFLAGS) -o $@ $< $(LIB)
+
+OUTSIDE = CARGO_TARGET_DIR=target/rust cargo run -q --release --offline --manifest-path tests/rust/Cargo.toml --
+
+outside: $(LIB)
+	@$(OUTSIDE)
+
+SECONDS = 60
+
+fuzz: $(LIB)
+	@$(OUTSIDE) --seconds $(SECONDS)
 
 target/bench/%: bench/%.c bench/bench.h include/gateway.h $(LIB)
 	@mkdir -p $(@D)
