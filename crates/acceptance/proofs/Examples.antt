@@ -1,0 +1,41 @@
+-- The marked examples hold, each by computing what its definition answers. Assumes nothing.
+use Prim.Native.Nat.{_<_}
+use mathlib.Core.Bool.{true, false}
+use mathlib.Core.Path.{_≡_, refl}
+use native.Mathlib.Omega.{arith}
+use lib.Dec.{eqb, ltb}
+use lib.ListN.{length}
+use borrow.Author.Tests.{eq-eqb, le-ltb}
+use Rattle.crc.specs.Crc.{crc, feed}
+use Rattle.link.specs.Frame.{readFrame, readBody}
+use Rattle.message.specs.Message.{readMessage, messageOf, plainListed, plainOf, readPlain}
+use Rattle.omnistat.specs.Frame.{frame, total, bytesOf}
+use Rattle.omnistat.specs.Message.{asRequest}
+use Rattle.omnistat.specs.Omnistat.{read}
+use Rattle.omnistat.specs.Register.{runAllowed}
+use Rattle.thermostat.specs.Registers.{listed, readOnly, allowed}
+use Rattle.thermostat.specs.Map.{stored}
+use Rattle.thermostat.specs.Step.{allSettable, sentBy, mapAfter, step}
+use Rattle.thermostat.proofs.Laws.Map.{put-same}
+use Rattle.tally.specs.Cost.{cost, tooLarge, millionths, power}
+use Rattle.x10.specs.Codes.{codeAt, indexOf, houseCode, unitCode}
+use Rattle.x10.specs.Pattern.{readKey, standard, read as readPattern, write as writePattern}
+use Rattle.x10.specs.Places.{spelled}
+use Rattle.acceptance.specs.Examples.{Holds, Marked-examples}
+
+-- a case and the rest of the list
+infixr 5 _and_
+_and_ : {A B : Type 0} → A → B → A × B
+a and b = (a, b)
+
+pub marked-examples : Marked-examples
+unfolding Holds crc feed readFrame readBody readMessage messageOf plainListed plainOf readPlain
+    read frame total bytesOf asRequest runAllowed listed readOnly allowed stored allSettable sentBy mapAfter step
+    cost tooLarge millionths power readPattern writePattern readKey standard spelled codeAt indexOf houseCode unitCode
+marked-examples map room whole fits =
+    let present : 59 < length map = omega arith in
+    let roomy : ltb room 18 ≡ false = le-ltb room 18 fits in
+    let complete : eqb (length map) 256 ≡ true = eq-eqb (length map) 256 whole in
+    refl and refl and refl and refl and refl and refl and refl and refl
+    and (simp (roomy, complete)) and put-same map 59 80 present and (simp (roomy, complete))
+    and refl and refl and refl and refl and tt
