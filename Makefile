@@ -1,6 +1,7 @@
 # make test   prove everything from nothing, then the tests from outside
 # make lib    the static library for C hosts, target/libgateway.a
 # make bench  speed beside plain C at -O3
+# make demo   the example gateway, examples/gateway.c, over two pseudo-terminals
 # make run    the listing of a capture: make run < FILE; of samples/line.capture where standard input is a terminal
 # make install PREFIX=..  the program capture, the library and its header
 CC = gcc
@@ -11,7 +12,7 @@ CAPTURE = target/bin/capture
 TESTS = $(patsubst tests/c/%.c,target/tests/%,$(wildcard tests/c/*.c))
 BENCHES = $(patsubst bench/%.c,target/bench/%,$(wildcard bench/*.c))
 
-.PHONY: test lib bench ctest run install clean
+.PHONY: test lib bench ctest demo run install clean
 
 test:
 	@tests/run
@@ -35,6 +36,13 @@ target/bench/%: bench/%.c bench/bench.h include/gateway.h $(LIB)
 
 bench: $(BENCHES)
 	@bench/run $(BENCHES)
+
+target/examples/%: examples/%.c include/gateway.h $(LIB)
+	@mkdir -p $(@D)
+	$(CC) $(CFLAGS) -o $@ $< $(LIB)
+
+demo: target/examples/gateway
+	@target/examples/gateway
 
 $(CAPTURE): crates.txt $(shell find crates -name '*.rt' -o -name '*.antt')
 	@rt check capture >&2 </dev/null

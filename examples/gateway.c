@@ -1,0 +1,471 @@
+/* A small site gateway. On one serial line it polls an Omnistat2 thermostat and tallies its cost readings, on another it asks
+   an Omni-Link controller for events and zones; it prints what it saw, and what was refused and why.
+
+       gateway THERMOSTAT-TTY OMNILINK-TTY [CODE]   two serial lines; CODE is the security code to log in with
+       gateway                                      the demonstration
+
+   In the demonstration the lines are pseudo-terminals; a child process at each plays the device and damages bytes by a
+   fixed counter, so that each run prints the same. Only the demonstration changes setpoints. */
+#define _XOPEN_SOURCE 700
+#include "gateway.h"
+#include <errno.h>
+#include <fcntl.h>
+#include <inttypes.h>
+#include <poll.h>
+#include <stdbool.h>
+#include <stdio.h>
+#include <stdlib.h>
+#include <string.h>
+#include <sys/wait.h>
+#include <termios.h>
+#include <unistd.h>
+
+enum { ADDRESS = 1, ROUNDS = 5, TRIES = 3, FIRST_ZONE = 1, LAST_ZONE = 3 };
+enum { OMNISTAT_MAX = 18, FRAME_MAX = 69 };          /* the longest message and the longest frame, in bytes */
+enum { BABBLE = 2048 };                              /* a line that never falls quiet is left after so many bytes */
+enum { POLL = 0, SET = 1 };                          /* Omnistat2 types at the thermostat */
+enum { ACKNOWLEDGE = 0, NEGATIVE = 1, DATA = 2 };    /* and at the host */
+enum { COOL = 59, HEAT = 60, TEMPERATURE = 64, COST = 170 };
+enum { ZONE_REQUEST = 0x15, ZONES = 0x16, LOGIN = 0x20, EVENT_REQUEST = 0x22, EVENTS = 0x23 };
+
+static const char *const REASONS[] = {
+    "accepted", "too short", "wrong start or direction", "wrong length byte", "too long", "wrong checksum", "unknown type",
+    "length wrong for the type", "field outside its list", "too little room", "cost word above 65025", "total too large"};
+
+static const char *const MESSAGES[] = {
+    [0x05] = "acknowledge", [0x06] = "negative acknowledge", [0x0D] = "upload event log", [0x0E] = "log entry",
+    [0x0F] = "command", [0x11] = "request system information", [0x13] = "request system status", [0x15] = "zone request",
+    [0x16] = "zone status", [0x20] = "login", [0x21] = "logout", [0x22] = "request events", [0x23] = "events",
+    [0x25] = "message status"};
+
+static void fail(const char *what)
+{
+    fprintf(stderr, "gateway: %s: %s\n", what, strerror(errno));
+    exit(1);
+}
+
+/* Whether an answer is accepted; prints what was refused and why. */
+static bool accepted(const char *what, size_t number, uint64_t answer)
+{
+    unsigned refusal = gateway_number(answer);
+    if (refusal != GATEWAY_ACCEPTED) {
+        printf("  %s %zu: refused %u, %s\n", what, number, refusal, REASONS[refusal]);
+    }
+    return refusal == GATEWAY_ACCEPTED;
+}
+
+/* ---- lines */
+
+struct line {
+    int fd;
+    int reply_ms;    /* the longest wait for the first byte of a reply */
+    int gap_ms;      /* a line without a byte for so long is quiet */
+};
+
+/* Opens a tty raw: 9600 baud, 8 bits, no parity, one stop bit. */
+static int open_tty(const char *path)
+{
+    struct termios t;
+    int fd = open(path, O_RDWR | O_NOCTTY | O_NONBLOCK);    /* O_NONBLOCK: do not wait for a carrier */
+    if (fd < 0 || tcgetattr(fd, &t) != 0) {
+        fail(path);
+    }
+    t.c_iflag = t.c_oflag = t.c_lflag = 0;
+    t.c_cflag = CS8 | CREAD | CLOCAL;
+    t.c_cc[VMIN] = 1;
+    t.c_cc[VTIME] = 0;
+    cfsetispeed(&t, B9600);
+    cfsetospeed(&t, B9600);
+    if (tcsetattr(fd, TCSAFLUSH, &t) != 0 || fcntl(fd, F_SETFL, 0) != 0) {
+        fail(path);
+    }
+    return fd;
+}
+
+static void send_all(int fd, const uint8_t *bytes, size_t len)
+{
+    while (len > 0) {
+        ssize_t n = write(fd, bytes, len);
+        if (n < 0) {
+            fail("write to a line");
+        }
+        bytes += n;
+        len -= (size_t)n;
+    }
+}
+
+/* Waits at most ms milliseconds for bytes; their count, 0 if none came. */
+static size_t receive(int fd, int ms, uint8_t *to, size_t room)
+{
+    struct pollfd p = {.fd = fd, .events = POLLIN};
+    int ready;
+    while ((ready = poll(&p, 1, ms)) < 0 && errno == EINTR) {
+    }
+    if (ready == 0) {
+        return 0;
+    }
+    ssize_t n = ready < 0 ? -1 : read(fd, to, room);
+    if (n <= 0) {
+        errno = n < 0 ? errno : EIO;    /* 0 bytes: hung up */
+        fail("read from a line");
+    }
+    return (size_t)n;
+}
+
+/* ---- the thermostat */
+
+/* Collects bytes until the reader has all it needs or the line is quiet. While a reply is too short there is room for more:
+   none is longer than OMNISTAT_MAX. */
+static uint64_t read_reply(const struct line *line, uint8_t *reply, size_t *len)
+{
+    uint64_t answer = GATEWAY_SHORT;
+    size_t n = 1;
+    for (*len = 0; n > 0 && gateway_number(answer) == GATEWAY_SHORT; *len += n) {
+        n = receive(line->fd, *len == 0 ? line->reply_ms : line->gap_ms, reply + *len, OMNISTAT_MAX - *len);
+        answer = omnistat_read_at_host(reply, *len + n);
+    }
+    return answer;
+}
+
+/* What is left of a damaged reply must not stand before the next one. */
+static void await_quiet(const struct line *line)
+{
+    uint8_t ignored[OMNISTAT_MAX];
+    for (int i = 0; i < BABBLE && receive(line->fd, line->gap_ms, ignored, sizeof ignored) > 0; i++) {
+    }
+}
+
+/* Sends a message until its reply is accepted, TRIES times at most. Answers as omnistat_read_at_host does. */
+static uint64_t ask_thermostat(const struct line *line, uint8_t type, const uint8_t *data, size_t len, uint8_t *reply)
+{
+    uint8_t message[OMNISTAT_MAX];
+    uint64_t written = omnistat_write_to_thermostat(ADDRESS, type, data, len, message, sizeof message);
+    uint64_t answer = written;
+    for (int i = 0; i < TRIES && accepted("message to thermostat", ADDRESS, written); i++) {
+        size_t got;
+        send_all(line->fd, message, gateway_value(written));
+        answer = read_reply(line, reply, &got);
+        if (accepted("thermostat reply, bytes", got, answer) && gateway_byte(answer, 1) == ADDRESS) {
+            return answer;
+        }
+        if (gateway_number(answer) != GATEWAY_SHORT) {
+            await_quiet(line);
+        }
+        answer = GATEWAY_SHORT;    /* a reply of another thermostat is none */
+    }
+    return answer;
+}
+
+/* Whether the thermostat gave the values of count registers from start on. */
+static bool poll_registers(const struct line *line, uint8_t start, uint8_t count, uint8_t *values)
+{
+    uint8_t reply[OMNISTAT_MAX];
+    uint64_t answer = ask_thermostat(line, POLL, (const uint8_t[]){start, count}, 2, reply);
+    bool given = gateway_number(answer) == GATEWAY_ACCEPTED && gateway_byte(answer, 0) == DATA &&
+                 gateway_byte(answer, 2) == start && gateway_byte(answer, 3) == count;
+    if (given) {
+        memcpy(values, reply + 3, count);
+    } else {
+        printf("  no values of registers %u to %u\n", (unsigned)start, start + count - 1u);
+    }
+    return given;
+}
+
+static void show_setpoints(const struct line *line)
+{
+    uint8_t values[TEMPERATURE - COOL + 1];
+    if (poll_registers(line, COOL, sizeof values, values)) {
+        struct setpoints pair = setpoints_from_bytes(values[0], values[HEAT - COOL]);
+        printf("  setpoints: cool %.1f C, heat %.1f C; temperature %.1f C\n", (double)pair.cool, (double)pair.heat,
+               (double)temperature_celsius(values[TEMPERATURE - COOL]));
+    }
+}
+
+static void set_setpoints(const struct line *line, struct setpoints pair)
+{
+    static const char *const replies[] = {[ACKNOWLEDGE] = "acknowledged", [NEGATIVE] = "negative reply"};
+    uint8_t reply[OMNISTAT_MAX];
+    uint64_t bytes = setpoints_to_bytes(pair);
+    printf("  set cool %.2f C, heat %.2f C\n", (double)pair.cool, (double)pair.heat);
+    if (accepted("setpoints to thermostat", ADDRESS, bytes)) {
+        const uint8_t data[] = {COOL, gateway_byte(bytes, 0), gateway_byte(bytes, 1)};
+        uint64_t answer = ask_thermostat(line, SET, data, sizeof data, reply);
+        if (gateway_number(answer) == GATEWAY_ACCEPTED) {
+            printf("  set: %s\n", gateway_byte(answer, 0) <= NEGATIVE ? replies[gateway_byte(answer, 0)] : "another reply");
+        }
+    }
+}
+
+/* Millionths as units with six decimals; unsigned, so that no sum shows as negative. */
+static void print_units(uint64_t millionths, const char *end)
+{
+    printf("%" PRIu64 ".%06" PRIu64 "%s", millionths / 1000000, millionths % 1000000, end);
+}
+
+/* A reading is added once, however often its poll had to be repeated. */
+static void add_cost(const struct line *line, struct tally *tally)
+{
+    uint8_t values[2];
+    if (poll_registers(line, COST, sizeof values, values)) {
+        uint16_t word = (uint16_t)(values[0] << 8 | values[1]);
+        if (accepted("cost word", word, tally_add(tally, word))) {
+            printf("  cost word %u: ", (unsigned)word);
+            print_units(gateway_value(cost_millionths(word)), ", total ");
+            print_units(tally->total, "\n");
+        }
+    }
+}
+
+/* ---- the Omni-Link controller */
+
+/* Bytes that are not yet known as frame or noise; bytes[0] is byte number offset of the line. */
+struct stream {
+    uint8_t bytes[4 * FRAME_MAX];
+    size_t len;
+    size_t noise;    /* length of the run of noise before bytes[0] */
+    size_t offset;
+};
+
+static void print_zone(unsigned number, uint64_t zone)
+{
+    static const char *const conditions[] = {"secure", "not ready", "trouble"};
+    static const char *const armings[] = {"disarmed", "armed", "bypassed by user", "bypassed by system"};
+    printf("    zone %u: %s, %s, loop reading %u\n", number, conditions[gateway_byte(zone, 0)], armings[gateway_byte(zone, 2)],
+           (unsigned)gateway_byte(zone, 4));
+}
+
+/* Zone and unit events are six bits of kind, one of state and nine of number. */
+static void print_event(unsigned event)
+{
+    if (event >> 10 == 1 || event >> 10 == 2) {
+        printf("    %s %u %s\n", event >> 10 == 1 ? "zone" : "unit", event & 0x1FF, event & 0x200 ? "on" : "off");
+    } else {
+        printf("    event %04X\n", event);
+    }
+}
+
+static void print_frame(const struct stream *s, size_t len)
+{
+    uint64_t message = omnilink_message_read(s->bytes, len);
+    printf("  frame at %zu, %zu bytes, type %02X\n", s->offset, len, (unsigned)s->bytes[2]);
+    if (accepted("message at", s->offset, message)) {
+        uint8_t type = gateway_byte(message, 0);
+        printf("    %s\n", MESSAGES[type]);
+        for (unsigned i = 0; i < gateway_byte(message, 1); i++) {
+            if (type == ZONES) {
+                print_zone(FIRST_ZONE + i, omnilink_zone(s->bytes, len, i));
+            } else if (type == EVENTS) {
+                print_event(gateway_word(omnilink_event(s->bytes, len, i), 0));
+            }
+        }
+    }
+}
+
+static void drop(struct stream *s, size_t count)
+{
+    s->len -= count;
+    s->offset += count;
+    memmove(s->bytes, s->bytes + count, s->len);
+}
+
+static void end_noise(struct stream *s)
+{
+    if (s->noise > 0) {
+        printf("  noise at %zu, %zu bytes\n", s->offset - s->noise, s->noise);
+    }
+    s->noise = 0;
+}
+
+/* Takes the frame or the byte of noise at the front of the stream; false if more bytes must come first. On a quiet line
+   none will come: a start without its frame is noise then, and a whole frame can stand behind it. */
+static bool take(struct stream *s, bool quiet, unsigned *frames)
+{
+    /* The reader wants the bytes of one frame: its length byte says how many. */
+    size_t len = s->len < 2 || s->bytes[1] + 4u > s->len ? s->len : s->bytes[1] + 4u;
+    uint64_t answer = omnilink_frame_read(s->bytes, len);
+    if (gateway_number(answer) == GATEWAY_SHORT && !quiet) {
+        return false;
+    }
+    /* Each byte of noise is refused for its start; only what began as a frame is worth a line. */
+    if (gateway_number(answer) == GATEWAY_START || !accepted("frame at", s->offset, answer)) {
+        s->noise++;
+        drop(s, 1);
+    } else {
+        end_noise(s);
+        print_frame(s, len);
+        drop(s, len);
+        ++*frames;
+    }
+    return true;
+}
+
+/* Reads until the line is quiet; the count of frames. There is room for more: fewer than FRAME_MAX bytes wait for the rest. */
+static unsigned read_frames(const struct line *line, struct stream *s)
+{
+    unsigned frames = 0;
+    size_t n = 1;
+    for (size_t total = 0; n > 0 && total < BABBLE; total += n) {
+        n = receive(line->fd, total == 0 ? line->reply_ms : line->gap_ms, s->bytes + s->len, sizeof s->bytes - s->len);
+        s->len += n;
+        while (s->len > 0 && take(s, n == 0, &frames)) {
+        }
+    }
+    end_noise(s);
+    return frames;
+}
+
+/* Sends a message until a frame comes, TRIES times at most. */
+static void ask_controller(const struct line *line, struct stream *s, uint8_t type, const uint8_t *data, size_t len)
+{
+    uint8_t message[FRAME_MAX];
+    uint64_t written = omnilink_message_write(type, data, len, message, sizeof message);
+    for (int i = 0; i < TRIES && accepted("message to controller, type", type, written); i++) {
+        send_all(line->fd, message, gateway_value(written));
+        if (read_frames(line, s) > 0) {
+            return;
+        }
+        printf("  no frame in reply\n");
+    }
+}
+
+/* A code that is not four digits is refused by the writer. */
+static void log_in(const struct line *line, struct stream *s, const char *code)
+{
+    uint8_t digits[5];
+    size_t len = 0;
+    for (; len < sizeof digits && code[len] != '\0'; len++) {
+        digits[len] = (uint8_t)(code[len] - '0');
+    }
+    ask_controller(line, s, LOGIN, digits, len);
+}
+
+/* ---- the demonstration: the devices at the other ends of the lines, each until the gateway closes its line */
+
+/* The model thermostat, in a cold store. Every third message finds another cost. */
+static void play_thermostat(int fd)
+{
+    static const uint16_t costs[] = {34567, 9999, 9999, 12345, 65535, 65025};
+    uint8_t map[256] = {[COOL] = 89, [HEAT] = 82, [TEMPERATURE] = 87}, bytes[OMNISTAT_MAX], reply[OMNISTAT_MAX] = {0};
+    size_t len = 0;
+    ssize_t n;
+    for (unsigned messages = 1; (n = read(fd, bytes + len, sizeof bytes - len)) > 0;) {
+        len += (size_t)n;
+        if (gateway_number(omnistat_read_at_thermostat(bytes, len)) == GATEWAY_SHORT) {
+            continue;
+        }
+        uint16_t cost = costs[messages / 3 % (sizeof costs / sizeof *costs)];
+        map[COST] = (uint8_t)(cost >> 8);
+        map[COST + 1] = (uint8_t)cost;
+        bytes[2] ^= messages == 10 ? 0x20 : 0;    /* damaged on the way here: refused, and nothing is sent */
+        size_t count = gateway_value(thermostat_step(ADDRESS, map, sizeof map, bytes, len, reply, sizeof reply));
+        reply[2] ^= messages == 4 ? 0x20 : 0;     /* damaged on the way back */
+        send_all(fd, reply, messages == 7 ? count - 1 : count);    /* a byte lost */
+        messages++;
+        len = 0;
+    }
+}
+
+#define SENDS(bytes) {bytes, sizeof bytes - 1}
+
+/* A controller that sends this to one question after the other, with the noise and the damage on its line. */
+static void play_controller(int fd)
+{
+    static const struct {
+        const char *bytes;
+        size_t len;
+    } answers[] = {
+        SENDS("\x5A\x01\x05\xC1\x93"),                                           /* acknowledge */
+        SENDS("\x00\x13\xFF" "\x5A\x05\x23\x06\x02\x0A\x05\xA2\x79"),            /* noise, events */
+        SENDS("\x07\x5A\x41" "\x5A\x07\x16\x00\x7C\x11\x61\x20\xFF\x6A\x8F"),    /* the start of 69 bytes, but zones follow */
+        SENDS("\x5A\x05\x23\x04\x42\x08\x05\xA2\xA1"),                           /* events with a bit turned over */
+        SENDS("\x5A\x05\x23\x04\x02\x08\x05\xA2\xA1"),                           /* the same, whole */
+        SENDS("\x5A\x00" "\x5A\x07\x16\x00\x7C\x11\x61\x20\xFF\x6A\x8F" "\x5A\x01\x85\xC0\x33"),    /* zones, unknown type */
+        SENDS("\x5A\x03\x16\x80\x00\x80\x40" "\x5A\x03\x23\x02\x51\x31\x12" "\x5A\x05\x23")};       /* wrong zone, event */
+    uint8_t bytes[FRAME_MAX];
+    size_t len = 0;
+    ssize_t n;
+    for (size_t i = 0; (n = read(fd, bytes + len, sizeof bytes - len)) > 0;) {
+        len += (size_t)n;
+        if (gateway_number(omnilink_frame_read(bytes, len)) != GATEWAY_SHORT) {
+            send_all(fd, (const uint8_t *)answers[i].bytes, answers[i].len);
+            i = (i + 1) % (sizeof answers / sizeof *answers);
+            len = 0;
+        }
+    }
+}
+
+/* Makes a pseudo-terminal with a device at its other end. */
+static int start_device(void (*play)(int fd))
+{
+    int device = posix_openpt(O_RDWR | O_NOCTTY);
+    if (device < 0 || grantpt(device) != 0 || unlockpt(device) != 0 || ptsname(device) == NULL) {
+        fail("pseudo-terminal");
+    }
+    int fd = open_tty(ptsname(device));
+    pid_t child = fork();
+    if (child < 0) {
+        fail("fork");
+    }
+    if (child == 0) {
+        close(fd);    /* else the device would never see the gateway close its line */
+        play(device);
+        exit(0);
+    }
+    close(device);
+    return fd;
+}
+
+/* ---- the gateway */
+
+static void run(const struct line *thermostat, const struct line *controller, const char *code, bool demonstration)
+{
+    static const struct setpoints wishes[ROUNDS] = {[1] = {5.5f, 2.0f}, [2] = {22.0f, 2.0f}, [3] = {5.25f, 2.0f}};
+    static const uint8_t zones[] = {FIRST_ZONE, LAST_ZONE};
+    struct tally tally = {0};
+    struct stream stream = {.len = 0};
+    if (code != NULL) {
+        printf("login\n");
+        log_in(controller, &stream, code);
+    }
+    for (int round = 0; round < ROUNDS; round++) {
+        printf("round %d\n", round + 1);
+        show_setpoints(thermostat);
+        add_cost(thermostat, &tally);
+        if (demonstration && wishes[round].cool > 0) {
+            set_setpoints(thermostat, wishes[round]);
+        }
+        if (round % 2 == 0) {
+            ask_controller(controller, &stream, EVENT_REQUEST, NULL, 0);
+        } else {
+            ask_controller(controller, &stream, ZONE_REQUEST, zones, sizeof zones);
+        }
+    }
+    printf("total ");
+    print_units(tally.total, "\n");
+}
+
+int main(int argc, char **argv)
+{
+    /* The waits of the devices' documents, but for the last: Omni-Link asks for 50 ms, a busy host may need more. */
+    struct line thermostat = {.reply_ms = 1250, .gap_ms = 500}, controller = {.reply_ms = 1000, .gap_ms = 100};
+    if (argc == 1) {
+        thermostat.fd = start_device(play_thermostat);
+        controller.fd = start_device(play_controller);
+        run(&thermostat, &controller, "1234", true);
+    } else if (argc == 3 || argc == 4) {
+        thermostat.fd = open_tty(argv[1]);
+        controller.fd = open_tty(argv[2]);
+        run(&thermostat, &controller, argv[3], false);    /* NULL without a code */
+    } else {
+        fprintf(stderr, "use: gateway [THERMOSTAT-TTY OMNILINK-TTY [CODE]]\n");
+        return 1;
+    }
+    if (fflush(stdout) != 0) {
+        fail("standard output");
+    }
+    close(controller.fd);
+    close(thermostat.fd);
+    while (wait(NULL) > 0) {
+    }
+    return 0;
+}
