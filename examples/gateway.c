@@ -135,7 +135,7 @@ static void await_quiet(const struct line *line)
     }
 }
 
-/* Sends a message until its reply is accepted, TRIES times at most. Answers what omnistat_read_at_host answered. */
+/* Sends a message until its reply is accepted, TRIES times at most. Answers as omnistat_read_at_host does. */
 static uint64_t ask_thermostat(const struct line *line, uint8_t type, const uint8_t *data, size_t len, uint8_t *reply)
 {
     uint8_t message[OMNISTAT_MAX];
@@ -145,12 +145,13 @@ static uint64_t ask_thermostat(const struct line *line, uint8_t type, const uint
         size_t got;
         send_all(line->fd, message, gateway_value(written));
         answer = read_reply(line, reply, &got);
-        if (accepted("thermostat reply, bytes", got, answer)) {
+        if (accepted("thermostat reply, bytes", got, answer) && gateway_byte(answer, 1) == ADDRESS) {
             return answer;
         }
         if (gateway_number(answer) != GATEWAY_SHORT) {
             await_quiet(line);
         }
+        answer = GATEWAY_SHORT;    /* a reply of another thermostat is none */
     }
     return answer;
 }
@@ -161,7 +162,7 @@ static bool poll_registers(const struct line *line, uint8_t start, uint8_t count
     uint8_t reply[OMNISTAT_MAX];
     uint64_t answer = ask_thermostat(line, POLL, (const uint8_t[]){start, count}, 2, reply);
     bool given = gateway_number(answer) == GATEWAY_ACCEPTED && gateway_byte(answer, 0) == DATA &&
-                 gateway_byte(answer, 1) == ADDRESS && gateway_byte(answer, 2) == start && gateway_byte(answer, 3) == count;
+                 gateway_byte(answer, 2) == start && gateway_byte(answer, 3) == count;
     if (given) {
         memcpy(values, reply + 3, count);
     } else {
@@ -196,9 +197,9 @@ static void set_setpoints(const struct line *line, struct setpoints pair)
 }
 
 /* Millionths as units with six decimals; unsigned, so that no sum shows as negative. */
-static void print_units(const char *what, uint64_t millionths, const char *end)
+static void print_units(uint64_t millionths, const char *end)
 {
-    printf("%s %" PRIu64 ".%06" PRIu64 "%s", what, millionths / 1000000, millionths % 1000000, end);
+    printf("%" PRIu64 ".%06" PRIu64 "%s", millionths / 1000000, millionths % 1000000, end);
 }
 
 /* A reading is added once, however often its poll had to be repeated. */
@@ -208,8 +209,9 @@ static void add_cost(const struct line *line, struct tally *tally)
     if (poll_registers(line, COST, sizeof values, values)) {
         uint16_t word = (uint16_t)(values[0] << 8 | values[1]);
         if (accepted("cost word", word, tally_add(tally, word))) {
-            print_units("  cost", gateway_value(cost_millionths(word)), ",");
-            print_units(" total", tally->total, "\n");
+            printf("  cost word %u: ", (unsigned)word);
+            print_units(gateway_value(cost_millionths(word)), ", total ");
+            print_units(tally->total, "\n");
         }
     }
 }
@@ -438,7 +440,8 @@ static void run(const struct line *thermostat, const struct line *controller, co
             ask_controller(controller, &stream, ZONE_REQUEST, zones, sizeof zones);
         }
     }
-    print_units("total", tally.total, "\n");
+    printf("total ");
+    print_units(tally.total, "\n");
 }
 
 int main(int argc, char **argv)
