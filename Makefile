@@ -6,6 +6,7 @@
 # make run    the listing of a capture: make run < FILE; of samples/line.capture where standard input is a terminal
 # make install PREFIX=..  the program capture, the library, its header and a pkg-config file
 CC = gcc
+CXX = g++
 CFLAGS = -std=c11 -O2 -Wall -Wextra -Werror -Iinclude
 PREFIX = /usr/local
 LIB = target/libgateway.a
@@ -30,6 +31,10 @@ ctest: $(TESTS)
 target/tests/%: tests/c/%.c tests/c/check.h include/gateway.h $(LIB)
 	@mkdir -p $(@D)
 	$(CC) $(CFLAGS) -o $@ $< $(LIB)
+
+target/tests/boost: tests/boost.cc include/gateway.h $(LIB)
+	@mkdir -p $(@D)
+	$(CXX) -std=c++17 -O2 -Wall -Wextra -Werror -Iinclude -o $@ $< $(LIB)
 
 OUTSIDE = CARGO_TARGET_DIR=target/rust cargo run -q --release --offline --manifest-path tests/rust/Cargo.toml --
 

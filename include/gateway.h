@@ -58,7 +58,8 @@ static inline uint16_t gateway_word(uint64_t answer, unsigned i)
 
 /* Reads a whole frame of any type.
    Accepted: type (8), count of data bytes (8); the data bytes are bytes[3] and on.
-   Refused, in this order: 1 empty; 2 start; 1 one byte only; 3 length byte; 1 fewer than L+4 bytes; 4 more; 5 CRC. */
+   Refused, in this order: 1 empty; 2 start; 1 one byte only; 3 length byte; 1 fewer than L+4 bytes; 4 more; 5 CRC.
+   5A 01 05 C1 93 is type 05 with no data bytes; with 92 at its end it is refused 5. */
 uint64_t omnilink_frame_read(const uint8_t *bytes, size_t len);
 
 /* Writes the frame of a type and len data bytes to out, which has room bytes and does not overlap data.
@@ -92,7 +93,8 @@ uint64_t omnilink_text_message(const uint8_t *bytes, size_t len, size_t i);
 
 /* The command of a command message (type 0F). Accepted: command (8: 0, 1, 2, 3, 9, 10, 11 or 12), unit of duration (8: 0
    none, 1 seconds, 2 minutes, 3 hours), count (8), P2 (16). The unit is 0 but for commands 0 and 1. The count is that of
-   the duration for 0 and 1, the percent for 9, the value for 12, and 0 for the others. */
+   the duration for 0 and 1, the percent for 9, the value for 12, and 0 for the others.
+   The data bytes 01 6E 00 05 are command 1, unit 2, count 10, P2 5: unit 5 on for ten minutes. */
 uint64_t omnilink_command(const uint8_t *bytes, size_t len);
 
 /* A field of a log entry (type 0E). Accepted: the field (16). Fields: 0 number, 1 time-valid flag, 2 month, 3 day, 4 hour,
@@ -103,7 +105,8 @@ uint64_t omnilink_log_entry(const uint8_t *bytes, size_t len, size_t field);
 
 /* Reads a message at the thermostat: type (8), first byte (8), start register (8), count of registers or values (8).
    Types: 0 poll, 1 set, 2 to 4 poll of group 1 to 3, whose start and count are 0. The values of a set are the count
-   bytes from bytes[3] on. Refusals: 1, 2, 4, 5, 6, 7, 8. */
+   bytes from bytes[3] on. Refusals: 1, 2, 4, 5, 6, 7, 8.
+   01 21 3B 50 AD is a set (1) with first byte 1, start 59, count 1, and the value 50 hex at bytes[3]. */
 uint64_t omnistat_read_at_thermostat(const uint8_t *bytes, size_t len);
 
 /* Reads a message at the host: type (8), number of the thermostat (8), start register (8), count of values (8).
@@ -125,7 +128,8 @@ uint64_t omnistat_write_to_host(uint8_t number, uint8_t type, const uint8_t *dat
    to out. The map has 256 bytes, one for each register; out has room for at least 18 and overlaps neither the map nor the
    message. Accepted: bytes written (16), 0 where nothing is sent: a broadcast, or a message for another address.
    Refused, with map and out unchanged: 9 room under 18, or map_len not 256; 8 own outside 1 to 127; then what
-   omnistat_read_at_thermostat refuses. A register that is unlisted, read only or out of range gets a negative reply. */
+   omnistat_read_at_thermostat refuses. A register that is unlisted, read only or out of range gets a negative reply.
+   At own 1, the message 01 21 3B 50 AD stores 50 hex in map[59] and writes 81 00 81; 00 21 3B 50 AC stores and writes nothing. */
 uint64_t thermostat_step(uint8_t own, uint8_t *map, size_t map_len, const uint8_t *bytes, size_t len, uint8_t *out, size_t room);
 
 /* A temperature byte in degrees Celsius, exactly byte/2 - 40. */
@@ -144,7 +148,7 @@ struct setpoints {
 struct setpoints setpoints_from_bytes(uint8_t cool, uint8_t heat);
 
 /* The two bytes of a setpoint pair: cool byte (8), heat byte (8). Refused 8 unless both values are exact half degrees from
-   -40 to 87.5; minus zero counts as zero. */
+   -40 to 87.5; minus zero counts as zero. 22.5 and 20 are the bytes 125 and 120; 22.25 is refused. */
 uint64_t setpoints_to_bytes(struct setpoints pair);
 
 /* Cost */
@@ -155,7 +159,7 @@ struct tally {
 };
 
 /* The value of a cost word (registers 170 and 171, high byte first). Refused: GATEWAY_COST_WORD.
-   Accepted: the value in millionths (56). */
+   Accepted: the value in millionths (56). 34567 is 4.567, so 4567000. */
 uint64_t cost_millionths(uint16_t word);
 
 /* Adds a cost word to a tally. Refused, with the tally unchanged: GATEWAY_COST_WORD, then GATEWAY_TOTAL.
@@ -185,7 +189,7 @@ uint64_t x10_write_extended(uint8_t house, uint8_t unit, uint8_t data, uint8_t c
    is noise. A line for each run of noise, `noise OFFSET COUNT`, for each frame, `frame OFFSET COUNT TYPE`, and at last
    `end OFFSET`; all numbers decimal, each line closed by one line feed. A room of 8 * len + 25 bytes is always enough, and quicker.
    Accepted: bytes written (32); out past them stays. Refused: 3 more than 4,096 bytes; 9 too little room.
-   out does not overlap bytes. */
+   out does not overlap bytes. The capture 00 5A 01 05 C1 93 5A gives the lines noise 0 1, frame 1 5 5, noise 6 1 and end 7. */
 uint64_t capture_listing(const uint8_t *bytes, size_t len, uint8_t *out, size_t room);
 
 #ifdef __cplusplus
