@@ -91,12 +91,18 @@ mod gateway {
     }
 }
 
+static LAST: AtomicU64 = AtomicU64::new(0);
+
+/// Fixes what `above` gives from here on.
+pub fn reseed(seed: u64) {
+    LAST.store(seed, Relaxed);
+}
+
 /// What stands above the bits of a narrow number in its register: often something else than zeros, which must not matter.
 fn above() -> u64 {
-    static LAST: AtomicU64 = AtomicU64::new(0);
     let next = LAST.load(Relaxed).wrapping_add(0x9E37_79B9_7F4A_7C15);
     LAST.store(next, Relaxed);
-    if next % 4 == 0 {
+    if next & 3 == 0 {
         0
     } else {
         next

@@ -116,9 +116,13 @@ impl Compare {
         }
     }
 
-    /// Goes on with another seed.
+    /// Goes on with another seed, as a run that starts with it.
     pub fn reseed(&mut self, seed: u64) {
         self.random = Random::new(seed);
+        self.input.reseed(self.random.next());
+        self.output.reseed(self.random.next());
+        self.map.reseed(self.random.next());
+        calls::reseed(self.random.next());
         self.prior = self.random.bytes(PRIOR);
     }
 
@@ -345,15 +349,22 @@ impl Compare {
         let got = calls::thermostat_step(own, lent_map, lent, out);
         let written = right.as_deref().unwrap_or(&[]);
         let right = valued(right.as_ref().map(|w| w.len() as u64).map_err(|&n| n));
-        let replied = self.output.holds(out, written, &prior[written.len()..]);
-        let stored = self.map.holds(lent_map, map, &[]) && self.input.holds(lent, bytes, &[]);
-        self.judge(Call::Step, right, got == right && replied && stored, || {
+        let same = self.output.holds(out, written, &prior[written.len()..])
+            && self.map.holds(lent_map, map, &[])
+            && self.input.holds(lent, bytes, &[]);
+        let agrees = got == right && same;
+        let told = if agrees {
+            String::new()
+        } else {
+            let (input, written, map) = (hex(bytes), hex(written), hex(map));
+            let output = hex(&self.output.content(out));
+            let got_map = hex(&self.map.content(lent_map));
             format!(
-                "own {own}, input {}, room {room}, expected {right:#X} {}, got {got:#X}, reply right {replied}, map right {stored}",
-                hex(bytes),
-                hex(written)
+                "own {own}, input {input}, output before {}, expected {right:#X} {written}, map {map}, got {got:#X}, output {output}, map {got_map}",
+                hex(prior)
             )
-        });
+        };
+        self.judge(Call::Step, right, agrees, || told);
     }
 
     pub fn temperature(&mut self, byte: u8) {

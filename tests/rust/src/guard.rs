@@ -71,6 +71,11 @@ impl Region {
         }
     }
 
+    /// Fixes where buffers are placed from here on.
+    pub fn reseed(&mut self, seed: u64) {
+        self.random = Random::new(seed);
+    }
+
     /// Lends a copy of `content`: it ends at the upper guard page, or starts at the lower one, or lies between them at any
     /// alignment; an empty one may be a null pointer.
     pub fn lend(&mut self, content: &[u8]) -> Lent {

@@ -26,11 +26,14 @@ pub fn all(compare: &mut Compare, random: &mut Random) {
     long_rooms(compare);
 }
 
+/// Bytes, and the type and count of data bytes of the frame that they are.
+type FrameExample<'a> = (&'a [u8], paper::Answer<(u8, usize)>);
+
 /// The printed examples of document 01, and the published check value of the CRC.
 fn examples(compare: &mut Compare) {
     compare.fact("check value of the CRC", paper::crc(b"123456789") == 0xBB3D);
     let frame = |bytes: &[u8]| paper::frame_read(bytes).map(|(kind, data)| (kind, data.len()));
-    let frames: [(&[u8], paper::Answer<(u8, usize)>); 10] = [
+    let frames: [FrameExample; 10] = [
         (&[0x5A, 0x01, 0x05, 0xC1, 0x93], Ok((0x05, 0))),
         (&[0x5A, 0x01, 0x06, 0x81, 0x92], Ok((0x06, 0))),
         (&[0x5A, 0x01, 0x85, 0xC0, 0x33], Ok((0x85, 0))),
