@@ -1,6 +1,7 @@
 //! The calls of include/gateway.h.
 
 use crate::guard::Lent;
+use std::sync::atomic::{AtomicU64, Ordering::Relaxed};
 
 /// A setpoint pair in degrees Celsius.
 #[repr(C)]
@@ -16,13 +17,14 @@ pub struct Tally {
     pub total: u64,
 }
 
+/// The calls, with every narrow number in a whole register.
 mod gateway {
     use super::{Setpoints, Tally};
 
     extern "C" {
         pub fn omnilink_frame_read(bytes: *const u8, len: usize) -> u64;
         pub fn omnilink_frame_write(
-            kind: u8,
+            kind: u64,
             data: *const u8,
             len: usize,
             out: *mut u8,
@@ -30,7 +32,7 @@ mod gateway {
         ) -> u64;
         pub fn omnilink_message_read(bytes: *const u8, len: usize) -> u64;
         pub fn omnilink_message_write(
-            kind: u8,
+            kind: u64,
             data: *const u8,
             len: usize,
             out: *mut u8,
@@ -44,23 +46,23 @@ mod gateway {
         pub fn omnistat_read_at_thermostat(bytes: *const u8, len: usize) -> u64;
         pub fn omnistat_read_at_host(bytes: *const u8, len: usize) -> u64;
         pub fn omnistat_write_to_thermostat(
-            address: u8,
-            kind: u8,
+            address: u64,
+            kind: u64,
             data: *const u8,
             len: usize,
             out: *mut u8,
             room: usize,
         ) -> u64;
         pub fn omnistat_write_to_host(
-            number: u8,
-            kind: u8,
+            number: u64,
+            kind: u64,
             data: *const u8,
             len: usize,
             out: *mut u8,
             room: usize,
         ) -> u64;
         pub fn thermostat_step(
-            own: u8,
+            own: u64,
             map: *mut u8,
             map_len: usize,
             bytes: *const u8,
@@ -68,25 +70,51 @@ mod gateway {
             out: *mut u8,
             room: usize,
         ) -> u64;
-        pub fn temperature_celsius(byte: u8) -> f32;
-        pub fn temperature_fahrenheit_tenths(byte: u8) -> i32;
-        pub fn setpoints_from_bytes(cool: u8, heat: u8) -> Setpoints;
+        pub fn temperature_celsius(byte: u64) -> f32;
+        pub fn temperature_fahrenheit_tenths(byte: u64) -> i32;
+        pub fn setpoints_from_bytes(cool: u64, heat: u64) -> Setpoints;
         pub fn setpoints_to_bytes(pair: Setpoints) -> u64;
-        pub fn cost_millionths(word: u16) -> u64;
-        pub fn tally_add(tally: *mut Tally, word: u16) -> u64;
+        pub fn cost_millionths(word: u64) -> u64;
+        pub fn tally_add(tally: *mut Tally, word: u64) -> u64;
         pub fn x10_read(places: *const u8, len: usize) -> u64;
-        pub fn x10_write_unit(house: u8, unit: u8, out: *mut u8, room: usize) -> u64;
-        pub fn x10_write_function(house: u8, code: u8, out: *mut u8, room: usize) -> u64;
+        pub fn x10_write_unit(house: u64, unit: u64, out: *mut u8, room: usize) -> u64;
+        pub fn x10_write_function(house: u64, code: u64, out: *mut u8, room: usize) -> u64;
         pub fn x10_write_extended(
-            house: u8,
-            unit: u8,
-            data: u8,
-            command: u8,
+            house: u64,
+            unit: u64,
+            data: u64,
+            command: u64,
             out: *mut u8,
             room: usize,
         ) -> u64;
         pub fn capture_listing(bytes: *const u8, len: usize, out: *mut u8, room: usize) -> u64;
     }
+}
+
+static LAST: AtomicU64 = AtomicU64::new(0);
+
+/// Fixes what `above` gives from here on.
+pub fn reseed(seed: u64) {
+    LAST.store(seed, Relaxed);
+}
+
+/// What stands above the bits of a narrow number in its register: often something else than zeros, which must not matter.
+fn above() -> u64 {
+    let next = LAST.load(Relaxed).wrapping_add(0x9E37_79B9_7F4A_7C15);
+    LAST.store(next, Relaxed);
+    if next & 3 == 0 {
+        0
+    } else {
+        next
+    }
+}
+
+fn byte(number: u8) -> u64 {
+    above() << 8 | u64::from(number)
+}
+
+fn word(number: u16) -> u64 {
+    above() << 16 | u64::from(number)
 }
 
 // SAFETY, for all below: a `Lent` names open memory of its length or is empty, and no two of one call overlap.
@@ -96,7 +124,9 @@ pub fn omnilink_frame_read(b: Lent) -> u64 {
 }
 
 pub fn omnilink_frame_write(kind: u8, data: Lent, out: Lent) -> u64 {
-    unsafe { gateway::omnilink_frame_write(kind, data.pointer, data.len, out.pointer, out.len) }
+    unsafe {
+        gateway::omnilink_frame_write(byte(kind), data.pointer, data.len, out.pointer, out.len)
+    }
 }
 
 pub fn omnilink_message_read(b: Lent) -> u64 {
@@ -104,7 +134,9 @@ pub fn omnilink_message_read(b: Lent) -> u64 {
 }
 
 pub fn omnilink_message_write(kind: u8, data: Lent, out: Lent) -> u64 {
-    unsafe { gateway::omnilink_message_write(kind, data.pointer, data.len, out.pointer, out.len) }
+    unsafe {
+        gateway::omnilink_message_write(byte(kind), data.pointer, data.len, out.pointer, out.len)
+    }
 }
 
 pub fn omnilink_zone(b: Lent, i: usize) -> u64 {
@@ -138,43 +170,62 @@ pub fn omnistat_read_at_host(b: Lent) -> u64 {
 pub fn omnistat_write_to_thermostat(address: u8, kind: u8, data: Lent, out: Lent) -> u64 {
     let (bytes, len) = (data.pointer, data.len);
     unsafe {
-        gateway::omnistat_write_to_thermostat(address, kind, bytes, len, out.pointer, out.len)
+        gateway::omnistat_write_to_thermostat(
+            byte(address),
+            byte(kind),
+            bytes,
+            len,
+            out.pointer,
+            out.len,
+        )
     }
 }
 
 pub fn omnistat_write_to_host(number: u8, kind: u8, data: Lent, out: Lent) -> u64 {
     let (bytes, len) = (data.pointer, data.len);
-    unsafe { gateway::omnistat_write_to_host(number, kind, bytes, len, out.pointer, out.len) }
+    unsafe {
+        gateway::omnistat_write_to_host(byte(number), byte(kind), bytes, len, out.pointer, out.len)
+    }
 }
 
 pub fn thermostat_step(own: u8, map: Lent, b: Lent, out: Lent) -> u64 {
     let (bytes, len) = (b.pointer, b.len);
-    unsafe { gateway::thermostat_step(own, map.pointer, map.len, bytes, len, out.pointer, out.len) }
+    unsafe {
+        gateway::thermostat_step(
+            byte(own),
+            map.pointer,
+            map.len,
+            bytes,
+            len,
+            out.pointer,
+            out.len,
+        )
+    }
 }
 
-pub fn temperature_celsius(byte: u8) -> f32 {
-    unsafe { gateway::temperature_celsius(byte) }
+pub fn temperature_celsius(n: u8) -> f32 {
+    unsafe { gateway::temperature_celsius(byte(n)) }
 }
 
-pub fn temperature_fahrenheit_tenths(byte: u8) -> i32 {
-    unsafe { gateway::temperature_fahrenheit_tenths(byte) }
+pub fn temperature_fahrenheit_tenths(n: u8) -> i32 {
+    unsafe { gateway::temperature_fahrenheit_tenths(byte(n)) }
 }
 
 pub fn setpoints_from_bytes(cool: u8, heat: u8) -> Setpoints {
-    unsafe { gateway::setpoints_from_bytes(cool, heat) }
+    unsafe { gateway::setpoints_from_bytes(byte(cool), byte(heat)) }
 }
 
 pub fn setpoints_to_bytes(pair: Setpoints) -> u64 {
     unsafe { gateway::setpoints_to_bytes(pair) }
 }
 
-pub fn cost_millionths(word: u16) -> u64 {
-    unsafe { gateway::cost_millionths(word) }
+pub fn cost_millionths(w: u16) -> u64 {
+    unsafe { gateway::cost_millionths(word(w)) }
 }
 
 /// What is lent is the 8 bytes of a tally, aligned.
-pub fn tally_add(tally: Lent, word: u16) -> u64 {
-    unsafe { gateway::tally_add(tally.pointer.cast::<Tally>(), word) }
+pub fn tally_add(tally: Lent, w: u16) -> u64 {
+    unsafe { gateway::tally_add(tally.pointer.cast::<Tally>(), word(w)) }
 }
 
 pub fn x10_read(places: Lent) -> u64 {
@@ -182,15 +233,24 @@ pub fn x10_read(places: Lent) -> u64 {
 }
 
 pub fn x10_write_unit(house: u8, unit: u8, out: Lent) -> u64 {
-    unsafe { gateway::x10_write_unit(house, unit, out.pointer, out.len) }
+    unsafe { gateway::x10_write_unit(byte(house), byte(unit), out.pointer, out.len) }
 }
 
 pub fn x10_write_function(house: u8, code: u8, out: Lent) -> u64 {
-    unsafe { gateway::x10_write_function(house, code, out.pointer, out.len) }
+    unsafe { gateway::x10_write_function(byte(house), byte(code), out.pointer, out.len) }
 }
 
 pub fn x10_write_extended(house: u8, unit: u8, data: u8, command: u8, out: Lent) -> u64 {
-    unsafe { gateway::x10_write_extended(house, unit, data, command, out.pointer, out.len) }
+    unsafe {
+        gateway::x10_write_extended(
+            byte(house),
+            byte(unit),
+            byte(data),
+            byte(command),
+            out.pointer,
+            out.len,
+        )
+    }
 }
 
 pub fn capture_listing(b: Lent, out: Lent) -> u64 {

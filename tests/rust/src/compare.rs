@@ -116,9 +116,13 @@ impl Compare {
         }
     }
 
-    /// Goes on with another seed.
+    /// Goes on with another seed, as a run that starts with it.
     pub fn reseed(&mut self, seed: u64) {
         self.random = Random::new(seed);
+        self.input.reseed(self.random.next());
+        self.output.reseed(self.random.next());
+        self.map.reseed(self.random.next());
+        calls::reseed(self.random.next());
         self.prior = self.random.bytes(PRIOR);
     }
 
@@ -144,8 +148,27 @@ impl Compare {
         }
     }
 
+    /// An answer alone.
+    pub fn answer(&mut self, call: Call, got: u64, right: u64) {
+        self.judge(call, right, got == right, || {
+            format!("length past 2^32, expected {right:#X}, got {got:#X}")
+        });
+    }
+
     /// A call that only reads a buffer.
     fn reads(&mut self, call: Call, bytes: &[u8], right: u64, run: impl FnOnce(Lent) -> u64) {
+        self.reads_item(call, bytes, 0, right, run);
+    }
+
+    /// A call that reads the item `i` of a buffer.
+    fn reads_item(
+        &mut self,
+        call: Call,
+        bytes: &[u8],
+        i: usize,
+        right: u64,
+        run: impl FnOnce(Lent) -> u64,
+    ) {
         let lent = self.input.lend(bytes);
         guard::announce(CALLS[call as usize].0, lent, self.passed, self.failed);
         let got = run(lent);
@@ -153,7 +176,7 @@ impl Compare {
         self.judge(call, right, got == right && kept, || {
             let note = if kept { "" } else { ", input changed" };
             format!(
-                "input {}, expected {right:#X}, got {got:#X}{note}",
+                "input {}, item {i}, expected {right:#X}, got {got:#X}{note}",
                 hex(bytes)
             )
         });
@@ -230,18 +253,20 @@ impl Compare {
     pub fn zone(&mut self, bytes: &[u8], i: usize) {
         let right = paper::zone(bytes, i);
         let right = packed(right);
-        self.reads(Call::Zone, bytes, right, |b| calls::omnilink_zone(b, i));
+        self.reads_item(Call::Zone, bytes, i, right, |b| calls::omnilink_zone(b, i));
     }
 
     pub fn event(&mut self, bytes: &[u8], i: usize) {
         let right = valued(paper::event(bytes, i).map(u64::from));
-        self.reads(Call::Event, bytes, right, |b| calls::omnilink_event(b, i));
+        self.reads_item(Call::Event, bytes, i, right, |b| {
+            calls::omnilink_event(b, i)
+        });
     }
 
     pub fn text_message(&mut self, bytes: &[u8], i: usize) {
         let right = paper::text_message(bytes, i);
         let right = packed(right);
-        self.reads(Call::TextMessage, bytes, right, |b| {
+        self.reads_item(Call::TextMessage, bytes, i, right, |b| {
             calls::omnilink_text_message(b, i)
         });
     }
@@ -256,7 +281,7 @@ impl Compare {
 
     pub fn log_entry(&mut self, bytes: &[u8], field: usize) {
         let right = valued(paper::log_entry(bytes, field).map(u64::from));
-        self.reads(Call::LogEntry, bytes, right, |b| {
+        self.reads_item(Call::LogEntry, bytes, field, right, |b| {
             calls::omnilink_log_entry(b, field)
         });
     }
@@ -324,15 +349,22 @@ impl Compare {
         let got = calls::thermostat_step(own, lent_map, lent, out);
         let written = right.as_deref().unwrap_or(&[]);
         let right = valued(right.as_ref().map(|w| w.len() as u64).map_err(|&n| n));
-        let replied = self.output.holds(out, written, &prior[written.len()..]);
-        let stored = self.map.holds(lent_map, map, &[]) && self.input.holds(lent, bytes, &[]);
-        self.judge(Call::Step, right, got == right && replied && stored, || {
+        let same = self.output.holds(out, written, &prior[written.len()..])
+            && self.map.holds(lent_map, map, &[])
+            && self.input.holds(lent, bytes, &[]);
+        let agrees = got == right && same;
+        let told = if agrees {
+            String::new()
+        } else {
+            let (input, written, map) = (hex(bytes), hex(written), hex(map));
+            let output = hex(&self.output.content(out));
+            let got_map = hex(&self.map.content(lent_map));
             format!(
-                "own {own}, input {}, room {room}, expected {right:#X} {}, got {got:#X}, reply right {replied}, map right {stored}",
-                hex(bytes),
-                hex(written)
+                "own {own}, input {input}, output before {}, expected {right:#X} {written}, map {map}, got {got:#X}, output {output}, map {got_map}",
+                hex(prior)
             )
-        });
+        };
+        self.judge(Call::Step, right, agrees, || told);
     }
 
     pub fn temperature(&mut self, byte: u8) {

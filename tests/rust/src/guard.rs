@@ -22,6 +22,7 @@ extern "C" {
 const NO_ACCESS: c_int = 0;
 const READ_AND_WRITE: c_int = 3;
 const PRIVATE_ANONYMOUS: c_int = 0x22;
+const NO_RESERVE: c_int = 0x4000;
 const SIGNAL_BUS: c_int = 7;
 const SIGNAL_SEGMENT: c_int = 11;
 const PAGE: usize = 4096;
@@ -68,6 +69,11 @@ impl Region {
                 random,
             }
         }
+    }
+
+    /// Fixes where buffers are placed from here on.
+    pub fn reseed(&mut self, seed: u64) {
+        self.random = Random::new(seed);
     }
 
     /// Lends a copy of `content`: it ends at the upper guard page, or starts at the lower one, or lies between them at any
@@ -138,6 +144,50 @@ impl Region {
     fn memory(&mut self) -> &mut [u8] {
         // SAFETY: the region's open pages, which nothing else refers to while no call runs.
         unsafe { std::slice::from_raw_parts_mut(self.start, self.size) }
+    }
+}
+
+/// Address space past 4 GiB, of which only what is touched becomes memory.
+pub struct Long {
+    start: *mut u8,
+}
+
+impl Long {
+    /// More than 32 bits count.
+    pub const PAST: usize = 1 << 32;
+
+    pub fn new() -> Option<Long> {
+        let (access, flags) = (READ_AND_WRITE, PRIVATE_ANONYMOUS | NO_RESERVE);
+        // SAFETY: a fresh mapping.
+        let start = unsafe {
+            mmap(
+                std::ptr::null_mut(),
+                Long::PAST + PAGE,
+                access,
+                flags,
+                -1,
+                0,
+            )
+        };
+        (start as isize != -1).then_some(Long {
+            start: start.cast(),
+        })
+    }
+
+    /// Lends 2^32 bytes more than `first`, which stands at their start.
+    pub fn lend(&mut self, first: &[u8]) -> Lent {
+        self.first().fill(0);
+        self.first()[..first.len()].copy_from_slice(first);
+        Lent {
+            pointer: self.start,
+            len: Long::PAST + first.len(),
+        }
+    }
+
+    /// The first bytes.
+    pub fn first(&mut self) -> &mut [u8] {
+        // SAFETY: open memory that nothing else refers to while no call runs.
+        unsafe { std::slice::from_raw_parts_mut(self.start, 512) }
     }
 }
 

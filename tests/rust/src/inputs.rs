@@ -210,15 +210,28 @@ fn address(random: &mut Random, own: u8) -> u8 {
     }
 }
 
-/// A capture of frames and noise; where asked, of exactly that many bytes.
+/// A frame whose data bytes hold a whole frame; where the outer one is damaged, the inner one counts.
+fn frame_in_frame(random: &mut Random) -> Vec<u8> {
+    let (before, within) = (random.below(4), random.below(8));
+    let mut data = random.bytes(before);
+    data.extend(paper::frame(random.byte(), &random.bytes(within)));
+    let mut bytes = paper::frame(random.byte(), &data);
+    if random.once_in(2) {
+        damage(random, &mut bytes);
+    }
+    bytes
+}
+
+/// A capture of frames and noise, of `size` bytes.
 pub fn capture(random: &mut Random, size: usize) -> Vec<u8> {
     let mut bytes = Vec::new();
     let quiet = random.from(1, 4);
     while bytes.len() < size {
-        match random.below(3 + quiet) {
+        match random.below(4 + quiet) {
             0 => bytes.extend(any_frame(random)),
             1 => bytes.extend(message_bytes(random)),
             2 => bytes.push(0x5A),
+            3 => bytes.extend(frame_in_frame(random)),
             _ => {
                 let count = random.from(1, 12);
                 bytes.extend(random.bytes(count));

@@ -1,6 +1,8 @@
 //! Inputs taken in order: every byte, word, register, place, type and length.
 
-use crate::compare::Compare;
+use crate::calls;
+use crate::compare::{Call, Compare};
+use crate::guard::{Long, Region};
 use crate::inputs::{self, OMNILINK_TYPES, SPECIAL};
 use crate::paper;
 use crate::random::Random;
@@ -20,13 +22,18 @@ pub fn all(compare: &mut Compare, random: &mut Random) {
     x10_writers(compare, random);
     x10_extended(compare, random);
     captures(compare, random);
+    long_inputs(compare);
+    long_rooms(compare);
 }
+
+/// Bytes, and the type and count of data bytes of the frame that they are.
+type FrameExample<'a> = (&'a [u8], paper::Answer<(u8, usize)>);
 
 /// The printed examples of document 01, and the published check value of the CRC.
 fn examples(compare: &mut Compare) {
     compare.fact("check value of the CRC", paper::crc(b"123456789") == 0xBB3D);
     let frame = |bytes: &[u8]| paper::frame_read(bytes).map(|(kind, data)| (kind, data.len()));
-    let frames: [(&[u8], paper::Answer<(u8, usize)>); 10] = [
+    let frames: [FrameExample; 10] = [
         (&[0x5A, 0x01, 0x05, 0xC1, 0x93], Ok((0x05, 0))),
         (&[0x5A, 0x01, 0x06, 0x81, 0x92], Ok((0x06, 0))),
         (&[0x5A, 0x01, 0x85, 0xC0, 0x33], Ok((0x85, 0))),
@@ -455,4 +462,94 @@ fn captures(compare: &mut Compare, random: &mut Random) {
     for room in 0..=12 {
         compare.listing(&[], room);
     }
+}
+
+/// Inputs of 2^32 bytes more than a frame: their length must not be taken modulo 2^32.
+fn long_inputs(compare: &mut Compare) {
+    let Some(mut long) = Long::new() else {
+        println!("no address space for lengths past 2^32");
+        return;
+    };
+    let out = Region::new(1, 0).lend(&[0; 100]);
+    let b = long.lend(&paper::frame(0x05, &[]));
+    compare.answer(Call::FrameRead, calls::omnilink_frame_read(b), 4);
+    compare.answer(Call::MessageRead, calls::omnilink_message_read(b), 4);
+    compare.answer(Call::Listing, calls::capture_listing(b, out), 3);
+    let b = long.lend(&paper::frame(0x16, &[0, 0]));
+    compare.answer(Call::Zone, calls::omnilink_zone(b, 0), 4);
+    let b = long.lend(&paper::frame(0x23, &[0, 0]));
+    compare.answer(Call::Event, calls::omnilink_event(b, 0), 4);
+    let b = long.lend(&paper::frame(0x25, &[0; 5]));
+    compare.answer(Call::TextMessage, calls::omnilink_text_message(b, 0), 4);
+    let b = long.lend(&paper::frame(0x0F, &[0, 0, 0, 1]));
+    compare.answer(Call::Command, calls::omnilink_command(b), 4);
+    let b = long.lend(&paper::frame(0x0E, &[1; 10]));
+    compare.answer(Call::LogEntry, calls::omnilink_log_entry(b, 0), 4);
+    let b = long.lend(&paper::omnistat(0x01, 2, &[]));
+    compare.answer(
+        Call::ReadAtThermostat,
+        calls::omnistat_read_at_thermostat(b),
+        4,
+    );
+    let map = Region::new(1, 0).lend(&[0; 256]);
+    compare.answer(Call::Step, calls::thermostat_step(1, map, b, out), 4);
+    let b = long.lend(&paper::omnistat(0x81, 0, &[]));
+    compare.answer(Call::ReadAtHost, calls::omnistat_read_at_host(b), 4);
+    let b = long.lend(&paper::x10_standard(0, 0, 0));
+    compare.answer(Call::X10Read, calls::x10_read(b), 4);
+    let b = long.lend(&[]);
+    compare.answer(Call::FrameWrite, calls::omnilink_frame_write(5, b, out), 3);
+    compare.answer(
+        Call::MessageWrite,
+        calls::omnilink_message_write(5, b, out),
+        7,
+    );
+    let got = calls::omnistat_write_to_thermostat(1, 2, b, out);
+    compare.answer(Call::WriteToThermostat, got, 7);
+    let got = calls::omnistat_write_to_host(1, 0, b, out);
+    compare.answer(Call::WriteToHost, got, 7);
+    let map = long.lend(&[0; 256]);
+    let poll = Region::new(1, 0).lend(&paper::omnistat(0x01, 2, &[]));
+    compare.answer(Call::Step, calls::thermostat_step(1, map, poll, out), 9);
+}
+
+/// Rooms of 2^32 bytes, which are enough.
+fn long_rooms(compare: &mut Compare) {
+    let Some(mut long) = Long::new() else {
+        return;
+    };
+    let out = long.lend(&[]);
+    let mut input = Region::new(1, 0);
+    let none = input.lend(&[]);
+    let mut written = |compare: &mut Compare, call, got, right: &[u8]| {
+        compare.answer(call, got, (right.len() as u64) << 8);
+        let same = long.first().starts_with(right);
+        compare.fact("what is written to a room of 2^32 bytes", same);
+    };
+    let got = calls::omnilink_frame_write(0x99, none, out);
+    written(compare, Call::FrameWrite, got, &paper::frame(0x99, &[]));
+    let got = calls::omnilink_message_write(0x05, none, out);
+    written(compare, Call::MessageWrite, got, &paper::frame(0x05, &[]));
+    let got = calls::omnistat_write_to_thermostat(9, 3, none, out);
+    let right = paper::omnistat(9, 3, &[]);
+    written(compare, Call::WriteToThermostat, got, &right);
+    let got = calls::omnistat_write_to_host(9, 1, none, out);
+    let right = paper::omnistat(0x89, 1, &[]);
+    written(compare, Call::WriteToHost, got, &right);
+    let got = calls::x10_write_unit(3, 4, out);
+    let right = paper::x10_write_unit(3, 4, 22).unwrap_or_default();
+    written(compare, Call::X10WriteUnit, got, &right);
+    let got = calls::x10_write_function(3, 4, out);
+    let right = paper::x10_write_function(3, 4, 22).unwrap_or_default();
+    written(compare, Call::X10WriteFunction, got, &right);
+    let got = calls::x10_write_extended(3, 4, 5, 6, out);
+    let right = paper::x10_write_extended(3, 4, 5, 6, 62).unwrap_or_default();
+    written(compare, Call::X10WriteExtended, got, &right);
+    let got = calls::capture_listing(none, out);
+    written(compare, Call::Listing, got, b"end 0\n");
+    let map = Region::new(1, 0).lend(&[0; 256]);
+    let poll = input.lend(&paper::omnistat(0xFA, 2, &[]));
+    let got = calls::thermostat_step(9, map, poll, out);
+    let right = paper::omnistat(0x89, 3, &[0; 6]);
+    written(compare, Call::Step, got, &right);
 }
