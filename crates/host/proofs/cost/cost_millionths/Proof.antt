@@ -1,13 +1,13 @@
+use mathlib.Core.Path.{_≡_, sym, ap, _∙_}
+use mathlib.Core.List.{[], _∷_}
 use Prim.Native.Nat.{ℕ, _%_, _^_}
 use borrow.Author.Needs.{needs}
-use mathlib.Core.List.{[], _∷_}
-use mathlib.Core.Path.{_≡_, sym, ap, _∙_}
 use Rattle.answer.specs.Answer.{Outcome, refused, accepted, onAccepted}
 use Rattle.answer.specs.Packed.{packed, field}
+use Rattle.tally.specs.Cost.{cost, costOf}
+use Rattle.tally.proofs.Laws.Cost.{accepted-short}
 use Rattle.host.proofs.cost.cost_millionths.Statement.{statement}
 use Rattle.host.proofs.cost.cost_millionths.Tie as tie
-use Rattle.tally.proofs.Laws.Cost.{accepted-short}
-use Rattle.tally.specs.Cost.{cost, costOf}
 
 -- the number that stands for an answer
 abbrev numbered : Outcome ℕ → ℕ

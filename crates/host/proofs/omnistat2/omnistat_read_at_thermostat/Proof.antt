@@ -1,10 +1,10 @@
-use borrow.Author.Needs.{needs}
 use mathlib.Core.Path.{ap, _∙_}
 use Rattle.answer.specs.Answer.{onAccepted}
 use Rattle.answer.specs.Packed.{packed}
+use Rattle.omnistat.specs.Answer.{requestFields}
+use borrow.Author.Needs.{needs}
 use Rattle.host.proofs.omnistat2.omnistat_read_at_thermostat.Statement.{statement}
 use Rattle.host.proofs.omnistat2.omnistat_read_at_thermostat.Tie as tie
-use Rattle.omnistat.specs.Answer.{requestFields}
 
 read-requires : tie.Need-read-requires
 read-requires c κs = search needs

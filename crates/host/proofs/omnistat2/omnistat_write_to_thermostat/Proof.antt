@@ -1,9 +1,9 @@
-use Prim.Native.Nat.{ℕ}
-use borrow.Author.Needs.{needs}
-use mathlib.Core.List.{[], _∷_}
 use mathlib.Core.Path.{ap, _∙_}
+use mathlib.Core.List.{[], _∷_}
+use Prim.Native.Nat.{ℕ}
 use Rattle.answer.specs.Answer.{Outcome, onAccepted}
 use Rattle.answer.specs.Packed.{packed, word}
+use borrow.Author.Needs.{needs}
 use Rattle.host.proofs.omnistat2.omnistat_write_to_thermostat.Statement.{statement}
 use Rattle.host.proofs.omnistat2.omnistat_write_to_thermostat.Tie as tie
 

@@ -1,13 +1,13 @@
-use Prim.Native.Nat.{ℕ}
-use borrow.Author.Needs.{needs}
-use mathlib.Core.List.{[], _∷_}
 use mathlib.Core.Path.{sym, ap, _∙_}
+use mathlib.Core.List.{[], _∷_}
+use Prim.Native.Nat.{ℕ}
 use Rattle.answer.specs.Answer.{accepted, onAccepted}
 use Rattle.answer.specs.Packed.{packed, byte}
+use Rattle.omnistat.specs.declared.reply.Reply.{Reply}
+use Rattle.omnistat.specs.Answer.{replyOf, replyFields}
+use borrow.Author.Needs.{needs}
 use Rattle.host.proofs.omnistat2.pack_reply.Statement.{statement}
 use Rattle.host.proofs.omnistat2.pack_reply.Tie as tie
-use Rattle.omnistat.specs.Answer.{replyOf, replyFields}
-use Rattle.omnistat.specs.declared.reply.Reply.{Reply}
 
 abbrev packedOf : Reply → ℕ
 packedOf r = packed (onAccepted replyFields (replyOf r))

@@ -1,13 +1,13 @@
-use Prim.Native.Nat.{ℕ}
-use borrow.Author.Needs.{needs}
-use mathlib.Core.List.{[], _∷_}
 use mathlib.Core.Path.{sym, ap, _∙_}
+use mathlib.Core.List.{[], _∷_}
+use Prim.Native.Nat.{ℕ}
 use Rattle.answer.specs.Answer.{accepted, onAccepted}
 use Rattle.answer.specs.Packed.{packed, byte}
+use Rattle.omnistat.specs.declared.request.Request.{Request}
+use Rattle.omnistat.specs.Answer.{requestOf, requestFields}
+use borrow.Author.Needs.{needs}
 use Rattle.host.proofs.omnistat2.pack_request.Statement.{statement}
 use Rattle.host.proofs.omnistat2.pack_request.Tie as tie
-use Rattle.omnistat.specs.Answer.{requestOf, requestFields}
-use Rattle.omnistat.specs.declared.request.Request.{Request}
 
 abbrev packedOf : Request → ℕ
 packedOf r = packed (onAccepted requestFields (requestOf r))

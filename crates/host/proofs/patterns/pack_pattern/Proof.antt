@@ -1,14 +1,14 @@
 -- `pack_pattern` meets its contract, case by case. Assumes nothing.
-use Prim.Native.Nat.{ℕ}
-use borrow.Author.Needs.{needs}
-use mathlib.Core.List.{[], _∷_}
 use mathlib.Core.Path.{sym, ap, _∙_}
+use mathlib.Core.List.{[], _∷_}
+use Prim.Native.Nat.{ℕ}
 use Rattle.answer.specs.Answer.{accepted, onAccepted}
 use Rattle.answer.specs.Packed.{packed, byte}
+use Rattle.x10.specs.declared.Pattern.{Pattern}
+use Rattle.x10.specs.Answers.{outcomeOf, fields}
+use borrow.Author.Needs.{needs}
 use Rattle.host.proofs.patterns.pack_pattern.Statement.{statement}
 use Rattle.host.proofs.patterns.pack_pattern.Tie as tie
-use Rattle.x10.specs.Answers.{outcomeOf, fields}
-use Rattle.x10.specs.declared.Pattern.{Pattern}
 
 enum-known-p : tie.Need-enum-known-p
 enum-known-p c = search needs

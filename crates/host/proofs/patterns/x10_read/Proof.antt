@@ -1,12 +1,12 @@
 -- `x10_read` meets its contract: the reader's answer, packed. Assumes nothing.
-use borrow.Author.Needs.{needs}
 use mathlib.Core.Path.{ap, _∙_}
 use Rattle.answer.specs.Answer.{Outcome, onAccepted}
 use Rattle.answer.specs.Packed.{packed}
-use Rattle.host.proofs.patterns.x10_read.Statement.{statement}
-use Rattle.host.proofs.patterns.x10_read.Tie as tie
 use Rattle.x10.specs.Answers.{fields}
 use Rattle.x10.specs.Pattern.{Message}
+use borrow.Author.Needs.{needs}
+use Rattle.host.proofs.patterns.x10_read.Statement.{statement}
+use Rattle.host.proofs.patterns.x10_read.Tie as tie
 
 read-requires : tie.Need-read-requires
 read-requires c κs = search needs

@@ -1,10 +1,10 @@
 -- `x10_write_extended` meets its contract: the writer's answer, packed. Assumes nothing.
-use Prim.Native.Nat.{ℕ}
-use borrow.Author.Needs.{needs}
-use mathlib.Core.List.{[], _∷_}
 use mathlib.Core.Path.{ap, _∙_}
+use mathlib.Core.List.{[], _∷_}
+use Prim.Native.Nat.{ℕ}
 use Rattle.answer.specs.Answer.{Outcome, onAccepted}
 use Rattle.answer.specs.Packed.{packed, word}
+use borrow.Author.Needs.{needs}
 use Rattle.host.proofs.patterns.x10_write_extended.Statement.{statement}
 use Rattle.host.proofs.patterns.x10_write_extended.Tie as tie
 
