@@ -1,20 +1,14 @@
 -- The C interface's Omni-Link messages: the fields of each packed value, in the header's order.
 use Prim.Native.Nat.{ℕ}
-use mathlib.Core.Bool.{Bool, true, false}
 use mathlib.Core.List.{List, [], _∷_}
 use lib.ListN.{length}
 use Rattle.answer.specs.Packed.{Field, byte, word}
 use Rattle.message.specs.Message.{Message, fixed, zoneStatus, events, messageStatus}
+use Rattle.message.specs.Typed.{conditionBits, latchedBits, armingBits, flag}
 use Rattle.message.specs.declared.command.Command.{Command}
 use Rattle.message.specs.declared.command.Command.the-variants as C
 use Rattle.message.specs.declared.command.Duration.{Duration}
 use Rattle.message.specs.declared.command.Duration.the-variants as D
-use Rattle.message.specs.declared.items.Arming.{Arming}
-use Rattle.message.specs.declared.items.Arming.the-variants as Arming
-use Rattle.message.specs.declared.items.Condition.{Condition}
-use Rattle.message.specs.declared.items.Condition.the-variants as Condition
-use Rattle.message.specs.declared.items.LatchedAlarm.{LatchedAlarm}
-use Rattle.message.specs.declared.items.LatchedAlarm.the-variants as LatchedAlarm
 use Rattle.message.specs.declared.items.TextMessage.{TextMessage}
 use Rattle.message.specs.declared.items.Zone.{Zone}
 use Rattle.message.specs.declared.message.Fixed.{Fixed}
@@ -61,37 +55,13 @@ countedFields (M.ZoneStatus n) = byte 0x16 ∷ byte n ∷ []
 countedFields (M.Events n) = byte 0x23 ∷ byte n ∷ []
 countedFields (M.MessageStatus n) = byte 0x25 ∷ byte n ∷ []
 
--- the number of a flag
-abbrev pub flagOf : Bool → ℕ
-flagOf true = 1
-flagOf false = 0
-
--- the number of a zone status's bits 0-1
-abbrev pub conditionBits : Condition → ℕ
-conditionBits Condition.Secure = 0
-conditionBits Condition.NotReady = 1
-conditionBits Condition.Trouble = 2
-
--- of its bits 2-3
-abbrev pub latchedBits : LatchedAlarm → ℕ
-latchedBits LatchedAlarm.Secure = 0
-latchedBits LatchedAlarm.Tripped = 1
-latchedBits LatchedAlarm.Reset = 2
-
--- of its bits 4-5
-abbrev pub armingBits : Arming → ℕ
-armingBits Arming.Disarmed = 0
-armingBits Arming.Armed = 1
-armingBits Arming.BypassedByUser = 2
-armingBits Arming.BypassedBySystem = 3
-
 -- a zone: condition (8), latched alarm (8), arming (8), unacknowledged trouble (8), loop reading (8)
 abbrev pub zoneFields : Zone → List Field
 zoneFields z =
     byte (conditionBits (z .condition))
     ∷ byte (latchedBits (z .«latched_alarm»))
     ∷ byte (armingBits (z .arming))
-    ∷ byte (flagOf (z .«unacknowledged_trouble»))
+    ∷ byte (flag (z .«unacknowledged_trouble»))
     ∷ byte (z .«loop_reading»)
     ∷ []
 
@@ -101,7 +71,7 @@ wordFields w = word w ∷ []
 
 -- a text message: displayed (8), not acknowledged (8)
 abbrev pub textFields : TextMessage → List Field
-textFields t = byte (flagOf (t .displayed)) ∷ byte (flagOf (t .«not_acknowledged»)) ∷ []
+textFields t = byte (flag (t .displayed)) ∷ byte (flag (t .«not_acknowledged»)) ∷ []
 
 -- the unit of a duration: 0 none, 1 seconds, 2 minutes, 3 hours
 abbrev pub durationUnit : Duration → ℕ

@@ -21,7 +21,8 @@ ghost use Rattle.answer.specs.Packed.{packed, byte, word};
 ghost use Rattle.message.specs.Command.{commandRead};
 ghost use Rattle.message.specs.Item.{zoneItem, eventItem, textItem, logItem, commandItem, zoneRead, wordRead, textRead};
 ghost use Rattle.message.specs.Message.{readMessage, writeMessage, messageRead};
-ghost use Rattle.host.specs.Messages.{fixedKind, messageFields, countedFields, flagOf, conditionBits, latchedBits, armingBits, zoneFields, wordFields, textFields, durationUnit, durationCount, commandFields};
+ghost use Rattle.message.specs.Typed.{conditionBits, latchedBits, armingBits, flag};
+ghost use Rattle.host.specs.Messages.{fixedKind, messageFields, countedFields, zoneFields, wordFields, textFields, durationUnit, durationCount, commandFields};
 
 // The type of a message of fixed length.
 fn fixed_kind(f: Fixed) -> u8
@@ -68,7 +69,7 @@ fn pack_message(r: MessageRead) -> u64
 }
 
 fn flag(b: bool) -> u8
-    ensures { λ n. ⌜ n ≡ flagOf b ⌝ }
+    ensures { λ n. ⌜ n ≡ flag b ⌝ }
 {
     if b {
         return 1;
