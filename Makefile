@@ -28,7 +28,7 @@ $(LIB): crates.txt $(shell find crates -name '*.rt' -o -name '*.antt')
 
 ctest: $(TESTS)
 
-target/tests/%: tests/c/%.c tests/c/check.h include/gateway.h $(LIB)
+target/tests/%: tests/c/%.c tests/c/check.h tests/c/crc.h include/gateway.h $(LIB)
 	@mkdir -p $(@D)
 	$(CC) $(CFLAGS) -o $@ $< $(LIB)
 

@@ -1,19 +1,7 @@
 /* Omni-Link frames: each refusal at its edge, the frames that document 000 prints, writing into rooms from 0 up. */
 #include "check.h"
+#include "crc.h"
 #include "gateway.h"
-
-/* The CRC of document 000, Appendix A, a bit at a time. */
-static unsigned crc_of(const uint8_t *bytes, size_t len)
-{
-    unsigned crc = 0;
-    for (size_t i = 0; i < len; i++) {
-        crc ^= bytes[i];
-        for (int bit = 0; bit < 8; bit++) {
-            crc = crc & 1 ? crc >> 1 ^ 0xA001 : crc >> 1;
-        }
-    }
-    return crc;
-}
 
 /* Document 01's order of checks, written out. */
 static uint64_t plain_read(const uint8_t *s, size_t n)

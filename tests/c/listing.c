@@ -2,23 +2,11 @@
    candidates, rooms around the size needed, and the stack that a capture of the shortest frames needs. */
 #define _POSIX_C_SOURCE 200809L
 #include "check.h"
+#include "crc.h"
 #include "gateway.h"
 #include <pthread.h>
 
 enum { CAPTURE = 4096, ROOM = 8 * CAPTURE + 25 };
-
-/* The CRC of document 000, Appendix A, a bit at a time. */
-static unsigned crc_of(const uint8_t *bytes, size_t len)
-{
-    unsigned crc = 0;
-    for (size_t i = 0; i < len; i++) {
-        crc ^= bytes[i];
-        for (int bit = 0; bit < 8; bit++) {
-            crc = crc & 1 ? crc >> 1 ^ 0xA001 : crc >> 1;
-        }
-    }
-    return crc;
-}
 
 /* The count of bytes of the whole frame that starts here, or 0. */
 static size_t plain_frame(const uint8_t *s, size_t left)

@@ -1,21 +1,10 @@
 /* Omni-Link messages: every type, every refusal, both edges of every range and every bit of the packed fields, against
    document 01's section "Omni-Link messages" written out in C. */
 #include "check.h"
+#include "crc.h"
 #include "gateway.h"
 
-/* The frame: document 01, "Omni-Link frames", the CRC a bit at a time. */
-static unsigned crc_of(const uint8_t *bytes, size_t len)
-{
-    unsigned crc = 0;
-    for (size_t i = 0; i < len; i++) {
-        crc ^= bytes[i];
-        for (int bit = 0; bit < 8; bit++) {
-            crc = crc & 1 ? crc >> 1 ^ 0xA001 : crc >> 1;
-        }
-    }
-    return crc;
-}
-
+/* The frame: document 01, "Omni-Link frames". */
 static size_t framed(uint8_t type, const uint8_t *data, size_t n, uint8_t *out)
 {
     out[0] = 0x5A;
