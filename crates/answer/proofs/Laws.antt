@@ -1,2 +1,4 @@
+pub mod Decided
 pub mod Output
+pub mod Table
 pub mod Test

@@ -1,10 +1,8 @@
 pub mod Bits
 pub mod Codes
-pub mod Outcome
 pub mod Pairs
 pub mod Pattern
 pub mod Put
 pub mod ReadAfterWrite
-pub mod Table
 pub mod Write
 pub mod WriteAfterRead

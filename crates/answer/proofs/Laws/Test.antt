@@ -1,11 +1,11 @@
 -- One check of a definition against the fact that decides it. Assumes nothing.
-use mathlib.Core.Path.{_≡_, refl, ap}
-use mathlib.Core.Bool.{Bool, true, false}
+use mathlib.Core.Path.{_≡_, refl, sym, ap}
+use mathlib.Core.Bool.{Bool, true, false, not}
 use Prim.Native.Nat.{ℕ, _<_, _≤_}
 use native.Mathlib.Omega.{arith}
 use lib.Dec.{ltb, eqb}
 use borrow.Author.Tests.{lt-ltb, le-ltb, eq-eqb, ne-eqb}
-use Rattle.answer.specs.Answer.{Outcome, refused, accepted, refuseIf, onAccepted}
+use Rattle.answer.specs.Answer.{Outcome, refused, accepted, refuseIf, onAccepted, andThen}
 
 module _ {A : Type 0} (n : ℕ) (later : Outcome A) where
   pub holds : {t : Bool} → t ≡ true → refuseIf t n later ≡ refused n
@@ -31,11 +31,33 @@ module _ {A : Type 0} (n : ℕ) (later : Outcome A) where
 pub not-accepted : {A : Type 0} (n : ℕ) (a : A) → _≡_ {A = Outcome A} (refused n) (accepted a) → ⊥
 not-accepted n a e = let z : _≡_ {A = ℕ} 0 1 = cc in omega arith
 
+pub same : {A : Type 0} {a b : A} → accepted a ≡ accepted b → a ≡ b
+same e = cc
+
 -- what was accepted passed the check
 pub passed : {A : Type 0} (t : Bool) (n : ℕ) (later : Outcome A) (a : A) → refuseIf t n later ≡ accepted a
     → (t ≡ false) × (later ≡ accepted a)
 passed true n later a e = absurd (not-accepted n a e)
 passed false n later a e = (refl, e)
+
+pub passed-not : {A : Type 0} (t : Bool) (n : ℕ) (later : Outcome A) (a : A) → refuseIf (not t) n later ≡ accepted a
+    → (t ≡ true) × (later ≡ accepted a)
+passed-not true n later a e = (refl, e)
+passed-not false n later a e = absurd (not-accepted n a e)
+
+-- what stands behind an answer that was read further
+module _ {A B : Type 0} where
+  pub then-accepted : (o : Outcome A) (f : A → Outcome B) (b : B) → andThen o f ≡ accepted b → (a : A) × (o ≡ accepted a) × (f a ≡ accepted b)
+  then-accepted (refused n) f b e = absurd (not-accepted n b e)
+  then-accepted (accepted a) f b e = (a, refl, e)
+
+  pub on-accepted : (f : A → B) (o : Outcome A) (b : B) → onAccepted f o ≡ accepted b → (a : A) × (o ≡ accepted a) × (f a ≡ b)
+  on-accepted f (refused n) b e = absurd (not-accepted n b e)
+  on-accepted f (accepted a) b e = (a, refl, same e)
+
+  pub still-refused : (f : A → B) (o : Outcome A) (n : ℕ) → onAccepted f o ≡ refused n → o ≡ refused n
+  still-refused f (refused m) n e = let h : m ≡ n = cc in ap refused h
+  still-refused f (accepted a) n e = absurd (not-accepted n (f a) (sym e))
 
 -- what is done of what is accepted, in two steps or in one
 pub in-one : {A B C : Type 0} (f : A → B) (g : B → C) (o : Outcome A) → onAccepted g (onAccepted f o) ≡ onAccepted (λ a. g (f a)) o

@@ -11,8 +11,8 @@ use Rattle.answer.specs.Answer.{refused, accepted}
 use Rattle.x10.specs.declared.Function.{Function}
 use Rattle.x10.specs.declared.Function.the-variants.{AllUnitsOff, AllLightsOn, On, Off, Dim, Bright, AllLightsOff, HailRequest, HailAcknowledge, StatusOn, StatusOff, StatusRequest}
 use Rattle.x10.specs.Codes.{codes, codeAt, indexOf, functionCode, functions, functionIn, functionOf, extended1}
-use Rattle.x10.proofs.Laws.Outcome.{never, same}
-use Rattle.x10.proofs.Laws.Table.{both-left, both-right, at}
+use Rattle.answer.proofs.Laws.Test.{not-accepted, same}
+use Rattle.answer.proofs.Laws.Table.{both-left, both-right, at}
 
 -- the rule of the list, at place i with the code x: the code is one of 16 and its place is i; and the code i has a place, where it stands
 rule : ℕ → ℕ → Bool
@@ -143,7 +143,7 @@ code-plain StatusRequest = omega arith
 
 -- a function that is found by a code has it
 found-in : (fs : List Function) (code : ℕ) (f : Function) → functionIn fs code ≡ accepted f → functionCode f ≡ code
-found-in [] code f e = absurd (never e)
+found-in [] code f e = absurd (not-accepted _ _ e)
 found-in (g ∷ fs) code f e = go (found-in fs code f) (eqb (functionCode g) code) refl e
   where
     go : (functionIn fs code ≡ accepted f → functionCode f ≡ code) → (t : Bool) → eqb (functionCode g) code ≡ t

@@ -15,7 +15,7 @@ use Rattle.x10.specs.Places.{arePlaces, startCode, paired, bits, spelled
 use Rattle.x10.specs.Pattern.{Message, unit, function, extended, ending, readFunction, readKey, read, standard, extension, write}
 use Rattle.x10.proofs.Laws.Bits.{bits-places, paired-places, spelled-bits}
 use Rattle.x10.proofs.Laws.Codes.{index-of-code, code-small, function-found, code-below, code-plain}
-use Rattle.x10.proofs.Laws.Outcome.{never, passed, same}
+use Rattle.answer.proofs.Laws.Test.{not-accepted, passed, same}
 use Rattle.x10.proofs.Laws.Pattern.{ends, read-on, key-unit, key-function, function-known, function-extended, rest-read}
 
 -- data and command are bytes
@@ -124,8 +124,8 @@ read-after-write (unit h u) ps b e = go (houseCode h) refl (unitCode u) refl e
   where
     go : (x : Outcome ℕ) → houseCode h ≡ x → (y : Outcome ℕ) → unitCode u ≡ y
         → andThen x (λ k. andThen y (λ m. accepted (standard k m 0))) ≡ accepted ps → read ps ≡ accepted (unit h u)
-    go (refused n) ex y ey e = absurd (never e)
-    go (accepted k) ex (refused n) ey e = absurd (never e)
+    go (refused n) ex y ey e = absurd (not-accepted _ _ e)
+    go (accepted k) ex (refused n) ey e = absurd (not-accepted _ _ e)
     go (accepted k) ex (accepted m) ey e =
         let r = house-back h k ex in
         let s = unit-back u m ey in
@@ -136,7 +136,7 @@ read-after-write (function h f) ps b e = go (houseCode h) refl e
   where
     go : (x : Outcome ℕ) → houseCode h ≡ x
         → andThen x (λ k. accepted (standard k (functionCode f) 1)) ≡ accepted ps → read ps ≡ accepted (function h f)
-    go (refused n) ex e = absurd (never e)
+    go (refused n) ex e = absurd (not-accepted _ _ e)
     go (accepted k) ex e =
         let r = house-back h k ex in
         ap read (sym (same e)) ∙ read-function k f (r .2) ∙ ap (λ (i : ℕ). accepted (function i f)) (r .1)
@@ -145,8 +145,8 @@ read-after-write (extended h u d c) ps b e = go (houseCode h) refl (unitCode u) 
     go : (x : Outcome ℕ) → houseCode h ≡ x → (y : Outcome ℕ) → unitCode u ≡ y
         → andThen x (λ k. andThen y (λ m. accepted (standard k extended1 1 ++ extension m d c))) ≡ accepted ps
         → read ps ≡ accepted (extended h u d c)
-    go (refused n) ex y ey e = absurd (never e)
-    go (accepted k) ex (refused n) ey e = absurd (never e)
+    go (refused n) ex y ey e = absurd (not-accepted _ _ e)
+    go (accepted k) ex (refused n) ey e = absurd (not-accepted _ _ e)
     go (accepted k) ex (accepted m) ey e =
         let r = house-back h k ex in
         let s = unit-back u m ey in

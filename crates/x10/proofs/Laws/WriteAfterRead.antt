@@ -16,7 +16,7 @@ use Rattle.x10.specs.Places.{arePlaces, startCode, startsWith, paired, b
 use Rattle.x10.specs.Pattern.{Message, unit, function, extended, ending, readRest, readFunction, readKey, read, standard, extension, write}
 use Rattle.x10.proofs.Laws.Bits.{and-left, and-right, spelled-back}
 use Rattle.x10.proofs.Laws.Codes.{code-at-index, index-small, found-code}
-use Rattle.x10.proofs.Laws.Outcome.{never, passed, same}
+use Rattle.answer.proofs.Laws.Test.{not-accepted, passed, same}
 use Rattle.x10.proofs.Laws.Write.{house-listed, unit-listed, unit-written, function-written, extended-written}
 
 -- a part of a list in two
@@ -144,9 +144,9 @@ module _ (ps : List ℕ) (m : Message) (long : 22 ≤ length ps) (start : take 4
 
       go : (a : Outcome ℕ) → spelled (slice 22 30 ps) ≡ a → (b : Outcome ℕ) → spelled (slice 30 46 ps) ≡ b
           → (c : Outcome ℕ) → spelled (slice 46 62 ps) ≡ c → o a b c ≡ accepted m → write m ≡ accepted ps
-      go (refused n) ea b eb c ec e = absurd (never e)
-      go (accepted u) ea (refused n) eb c ec e = absurd (never e)
-      go (accepted u) ea (accepted x) eb (refused n) ec e = absurd (never e)
+      go (refused n) ea b eb c ec e = absurd (not-accepted _ _ e)
+      go (accepted u) ea (refused n) eb c ec e = absurd (not-accepted _ _ e)
+      go (accepted u) ea (accepted x) eb (refused n) ec e = absurd (not-accepted _ _ e)
       go (accepted u) ea (accepted x) eb (accepted y) ec e =
           let r = ending-back 62 ps (extended (indexOf h) (indexOf u + 1) x y) m e in
           ap write (sym (r .1))
@@ -160,7 +160,7 @@ module _ (ps : List ℕ) (m : Message) (long : 22 ≤ length ps) (start : take 4
       go : (t : Bool) → eqb k extended1 ≡ t → (o : Outcome Function) → functionOf k ≡ o
           → cond t (readRest ps h) (andThen o λ f. ending 22 ps (function (indexOf h) f)) ≡ accepted m → write m ≡ accepted ps
       go true et o eo e = rest-back h k d eh ek ed (eqb-true k extended1 et) ed1 e
-      go false et (refused n) eo e = absurd (never e)
+      go false et (refused n) eo e = absurd (not-accepted _ _ e)
       go false et (accepted f) eo e =
           let r = ending-back 22 ps (function (indexOf h) f) m e in
           ap write (sym (r .1)) ∙ function-back ps long start h k d eh ek ed f (r .0) ed1 eo
@@ -185,9 +185,9 @@ module _ (ps : List ℕ) (m : Message) (long : 22 ≤ length ps) (start : take 4
           → (andThen a λ h. andThen b λ k. andThen c λ d.
           cond (eqb d 0) (ending 22 ps (unit (indexOf h) (indexOf k + 1))) (readFunction ps h k)) ≡ accepted m
           → write m ≡ accepted ps
-      go (refused n) ea b eb c ec e = absurd (never e)
-      go (accepted h) ea (refused n) eb c ec e = absurd (never e)
-      go (accepted h) ea (accepted k) eb (refused n) ec e = absurd (never e)
+      go (refused n) ea b eb c ec e = absurd (not-accepted _ _ e)
+      go (accepted h) ea (refused n) eb c ec e = absurd (not-accepted _ _ e)
+      go (accepted h) ea (accepted k) eb (refused n) ec e = absurd (not-accepted _ _ e)
       go (accepted h) ea (accepted k) eb (accepted d) ec e = by-d16 h k d ea eb ec (eqb d 0) refl e
 
 pub write-after-read : (ps : List ℕ) (m : Message) → read ps ≡ accepted m → write m ≡ accepted ps
