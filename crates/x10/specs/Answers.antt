@@ -3,13 +3,8 @@ use Prim.Native.Nat.{ℕ}
 use mathlib.Core.List.{List, [], _∷_}
 use Rattle.answer.specs.Answer.{Outcome, refused, accepted, numberOf}
 use Rattle.answer.specs.Packed.{Field, byte}
-use Rattle.x10.specs.declared.Function.{Function}
 use Rattle.x10.specs.declared.Pattern.{Pattern}
 use Rattle.x10.specs.declared.Pattern.the-variants.{Refused, Unit as Unit′, Function as Function′, Extended}
-use Rattle.x10.specs.declared.codes.Lookup.{Lookup}
-use Rattle.x10.specs.declared.codes.Lookup.the-variants.{Known, Unknown}
-use Rattle.x10.specs.declared.pairs.Spelling.{Spelling}
-use Rattle.x10.specs.declared.pairs.Spelling.the-variants.{Number, Wrong}
 use Rattle.x10.specs.Codes.{functionCode}
 use Rattle.x10.specs.Pattern.{Message, unit, function, extended}
 
@@ -19,16 +14,6 @@ outcomeOf (Refused r) = refused (numberOf r)
 outcomeOf (Unit′ house u) = accepted (unit house u)
 outcomeOf (Function′ house f) = accepted (function house f)
 outcomeOf (Extended house u data′ command) = accepted (extended house u data′ command)
-
--- what a look at the table of functions says: 6 for an unknown code
-abbrev pub lookupOf : Lookup → Outcome Function
-lookupOf (Known f) = accepted f
-lookupOf Unknown = refused 6
-
--- what pairs of places say: 5 for a wrong complement
-abbrev pub spellingOf : Spelling → Outcome ℕ
-spellingOf (Number n) = accepted n
-spellingOf Wrong = refused 5
 
 -- for C: kind 0, 1 or 2, house, unit or function code, data, command
 abbrev pub fields : Message → List Field

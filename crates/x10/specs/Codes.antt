@@ -27,17 +27,13 @@ position (x ∷ xs) code = cond (eqb x code) 0 (suc (position xs code))
 unfoldable pub indexOf : ℕ → ℕ
 indexOf code = position codes code
 
--- to a writer: the code at a place, and 8 past the list
-abbrev pub listed : ℕ → Outcome ℕ
-listed i = refuseIf (ltb 15 i) 8 (accepted (codeAt i))
-
--- to a writer: the code of house 0 to 15
+-- to a writer: the code of house 0 to 15, else 8
 unfoldable pub houseCode : ℕ → Outcome ℕ
-houseCode house = listed house
+houseCode house = refuseIf (ltb 15 house) 8 (accepted (codeAt house))
 
--- to a writer: the code of unit 1 to 16
+-- to a writer: the code of unit 1 to 16, by the same list, else 8
 unfoldable pub unitCode : ℕ → Outcome ℕ
-unitCode u = refuseIf (eqb u 0) 8 (listed (u - 1))
+unitCode u = refuseIf (eqb u 0) 8 (houseCode (u - 1))
 
 -- document 001's functions that take 22 places: D8 D4 D2 D1, with D16 1
 abbrev pub functionCode : Function → ℕ

@@ -3,3 +3,4 @@ pub mod Codes
 pub mod Places
 pub mod Pattern
 pub mod Answers
+pub mod Parts

@@ -3,7 +3,7 @@ use crate::Function;
 ghost use mathlib.Core.Path.{_≡_};
 ghost use Prim.Native.Nat.{_<_};
 ghost use Rattle.x10.specs.Codes.{codeAt, indexOf, functionOf};
-ghost use Rattle.x10.specs.Answers.{lookupOf};
+ghost use Rattle.x10.specs.Parts.{lookupOf};
 
 // The codes of houses A to P, and of units 1 to 16.
 const CODES: [u8; 16] = [

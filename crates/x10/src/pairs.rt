@@ -4,7 +4,7 @@ ghost use Prim.Native.Nat.{_+_, _*_, _<_, _≤_};
 ghost use lib.ListN.{length};
 ghost use lib.Seq.{slice, sets};
 ghost use Rattle.x10.specs.Places.{arePlaces, spelled, paired, bits};
-ghost use Rattle.x10.specs.Answers.{spellingOf};
+ghost use Rattle.x10.specs.Parts.{spellingOf};
 
 // What pairs of places spell.
 pub enum Spelling {

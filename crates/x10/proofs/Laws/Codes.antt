@@ -1,18 +1,18 @@
 -- The code list is a bijection of the 16 codes: one test over the list and over the places of its codes. Assumes nothing.
 use mathlib.Core.Path.{_≡_, refl, sym, ap, _∙_}
-use mathlib.Core.Bool.{Bool, true, false, cond, _&&_}
+use mathlib.Core.Bool.{Bool, true, false, not, cond, _&&_}
 use mathlib.Core.List.{List, [], _∷_}
 use Prim.Native.Nat.{ℕ, _<_}
 use lib.Dec.{T, eqb, ltb, eqb→eq, ltb→lt}
 use lib.ListN.{getD}
 use native.Mathlib.Omega.{arith}
-use borrow.Author.Tests.{ne-eqb, eqb-true}
+use borrow.Author.Tests.{ne-eqb, eqb-true, eqb-false, not-true}
 use Rattle.answer.specs.Answer.{refused, accepted}
 use Rattle.x10.specs.declared.Function.{Function}
 use Rattle.x10.specs.declared.Function.the-variants.{AllUnitsOff, AllLightsOn, On, Off, Dim, Bright, AllLightsOff, HailRequest, HailAcknowledge, StatusOn, StatusOff, StatusRequest}
 use Rattle.x10.specs.Codes.{codes, codeAt, indexOf, functionCode, functions, functionIn, functionOf, extended1}
 use Rattle.answer.proofs.Laws.Test.{not-accepted, same}
-use Rattle.answer.proofs.Laws.Table.{both-left, both-right, at}
+use Rattle.answer.proofs.Laws.Table.{both-left, both-right, holds as is-true, at}
 
 -- the rule of the list, at place i with the code x: the code is one of 16 and its place is i; and the code i has a place, where it stands
 rule : ℕ → ℕ → Bool
@@ -113,33 +113,28 @@ no-function code n0 n1 n2 n3 n4 n5 n6 n8 n9 n13 n14 n15 =
     )
 
 -- the codes of functions have four bits, and none is that of Extended 1
+plain : (f : Function) → T (ltb (functionCode f) 16 && not (eqb (functionCode f) extended1))
+plain AllUnitsOff = tt
+plain AllLightsOn = tt
+plain On = tt
+plain Off = tt
+plain Dim = tt
+plain Bright = tt
+plain AllLightsOff = tt
+plain HailRequest = tt
+plain HailAcknowledge = tt
+plain StatusOn = tt
+plain StatusOff = tt
+plain StatusRequest = tt
+
 pub code-below : (f : Function) → functionCode f < 16
-code-below AllUnitsOff = omega arith
-code-below AllLightsOn = omega arith
-code-below On = omega arith
-code-below Off = omega arith
-code-below Dim = omega arith
-code-below Bright = omega arith
-code-below AllLightsOff = omega arith
-code-below HailRequest = omega arith
-code-below HailAcknowledge = omega arith
-code-below StatusOn = omega arith
-code-below StatusOff = omega arith
-code-below StatusRequest = omega arith
+code-below f = ltb→lt (functionCode f) 16 (both-left (ltb (functionCode f) 16) (not (eqb (functionCode f) extended1)) (plain f))
 
 pub code-plain : (f : Function) → functionCode f ≡ extended1 → ⊥
-code-plain AllUnitsOff = omega arith
-code-plain AllLightsOn = omega arith
-code-plain On = omega arith
-code-plain Off = omega arith
-code-plain Dim = omega arith
-code-plain Bright = omega arith
-code-plain AllLightsOff = omega arith
-code-plain HailRequest = omega arith
-code-plain HailAcknowledge = omega arith
-code-plain StatusOn = omega arith
-code-plain StatusOff = omega arith
-code-plain StatusRequest = omega arith
+code-plain f =
+    eqb-false (functionCode f) extended1
+    (not-true (eqb (functionCode f) extended1)
+    (is-true (not (eqb (functionCode f) extended1)) (both-right (ltb (functionCode f) 16) (not (eqb (functionCode f) extended1)) (plain f))))
 
 -- a function that is found by a code has it
 found-in : (fs : List Function) (code : ℕ) (f : Function) → functionIn fs code ≡ accepted f → functionCode f ≡ code

@@ -8,14 +8,14 @@ use lib.Dec.{eqb, ltb}
 use lib.ListN.{length}
 use lib.Seq.{slice}
 use borrow.Author.Tests.{ltb-false, eqb-false}
-use Rattle.answer.specs.Answer.{Outcome, refused, accepted, refuseIf, andThen}
+use Rattle.answer.specs.Answer.{accepted, andThen}
 use Rattle.x10.specs.declared.Function.{Function}
 use Rattle.x10.specs.Codes.{codeAt, indexOf, houseCode, unitCode, functionCode, extended1}
 use Rattle.x10.specs.Places.{arePlaces, startCode, paired, bits, spelled}
 use Rattle.x10.specs.Pattern.{Message, unit, function, extended, ending, readFunction, readKey, read, standard, extension, write}
 use Rattle.x10.proofs.Laws.Bits.{bits-places, paired-places, spelled-bits}
 use Rattle.x10.proofs.Laws.Codes.{index-of-code, code-small, function-found, code-below, code-plain}
-use Rattle.answer.proofs.Laws.Test.{not-accepted, passed, same}
+use Rattle.answer.proofs.Laws.Test.{passed, same, then-accepted}
 use Rattle.x10.proofs.Laws.Pattern.{ends, read-on, key-unit, key-function, function-known, function-extended, rest-read}
 
 -- data and command are bytes
@@ -111,45 +111,31 @@ house-back h k e =
 unit-back : (u k : ℕ) → unitCode u ≡ accepted k → (indexOf k + 1 ≡ u) × (k < 16)
 unfolding unitCode
 unit-back u k e =
-    let r = passed (eqb u 0) 8 (refuseIf (ltb 15 (u - 1)) 8 (accepted (codeAt (u - 1)))) k e in
-    let s = passed (ltb 15 (u - 1)) 8 (accepted (codeAt (u - 1))) k (r .1) in
+    let r = passed (eqb u 0) 8 (houseCode (u - 1)) k e in
     let n : u ≡ 0 → ⊥ = eqb-false u 0 (r .0) in
-    let hu : u - 1 < 16 = omega (arith, ltb-false 15 (u - 1) (s .0)) in
-    let i : indexOf k ≡ u - 1 = ap indexOf (sym (same (s .1))) ∙ index-of-code (u - 1) hu in
-    (omega arith, subst (λ (x : ℕ). x < 16) (same (s .1)) (code-small (u - 1) hu))
+    let h = house-back (u - 1) k (r .1) in
+    let i : indexOf k ≡ u - 1 = h .1 in
+    (omega arith, h .2)
 
 pub read-after-write : (m : Message) (ps : List ℕ) → Bytes m → write m ≡ accepted ps → read ps ≡ accepted m
 unfolding write
-read-after-write (unit h u) ps b e = go (houseCode h) refl (unitCode u) refl e
-  where
-    go : (x : Outcome ℕ) → houseCode h ≡ x → (y : Outcome ℕ) → unitCode u ≡ y
-        → andThen x (λ k. andThen y (λ m. accepted (standard k m 0))) ≡ accepted ps → read ps ≡ accepted (unit h u)
-    go (refused n) ex y ey e = absurd (not-accepted _ _ e)
-    go (accepted k) ex (refused n) ey e = absurd (not-accepted _ _ e)
-    go (accepted k) ex (accepted m) ey e =
-        let r = house-back h k ex in
-        let s = unit-back u m ey in
-        ap read (sym (same e))
-        ∙ read-unit k m (r .2) (s .1)
-        ∙ ap₂ (λ (i j : ℕ). accepted (unit i j)) (r .1) (s .0)
-read-after-write (function h f) ps b e = go (houseCode h) refl e
-  where
-    go : (x : Outcome ℕ) → houseCode h ≡ x
-        → andThen x (λ k. accepted (standard k (functionCode f) 1)) ≡ accepted ps → read ps ≡ accepted (function h f)
-    go (refused n) ex e = absurd (not-accepted _ _ e)
-    go (accepted k) ex e =
-        let r = house-back h k ex in
-        ap read (sym (same e)) ∙ read-function k f (r .2) ∙ ap (λ (i : ℕ). accepted (function i f)) (r .1)
-read-after-write (extended h u d c) ps b e = go (houseCode h) refl (unitCode u) refl e
-  where
-    go : (x : Outcome ℕ) → houseCode h ≡ x → (y : Outcome ℕ) → unitCode u ≡ y
-        → andThen x (λ k. andThen y (λ m. accepted (standard k extended1 1 ++ extension m d c))) ≡ accepted ps
-        → read ps ≡ accepted (extended h u d c)
-    go (refused n) ex y ey e = absurd (not-accepted _ _ e)
-    go (accepted k) ex (refused n) ey e = absurd (not-accepted _ _ e)
-    go (accepted k) ex (accepted m) ey e =
-        let r = house-back h k ex in
-        let s = unit-back u m ey in
-        ap read (sym (same e))
-        ∙ read-extended k m d c (r .2) (s .1) (b .0) (b .1)
-        ∙ ap₂ (λ (i j : ℕ). accepted (extended i j d c)) (r .1) (s .0)
+read-after-write (unit h u) ps b e =
+    let x = then-accepted (houseCode h) (λ k. andThen (unitCode u) (λ m. accepted (standard k m 0))) ps e in
+    let y = then-accepted (unitCode u) (λ m. accepted (standard (x .0) m 0)) ps (x .2) in
+    let r = house-back h (x .0) (x .1) in
+    let s = unit-back u (y .0) (y .1) in
+    ap read (sym (same (y .2)))
+    ∙ read-unit (x .0) (y .0) (r .2) (s .1)
+    ∙ ap₂ (λ (i j : ℕ). accepted (unit i j)) (r .1) (s .0)
+read-after-write (function h f) ps b e =
+    let x = then-accepted (houseCode h) (λ k. accepted (standard k (functionCode f) 1)) ps e in
+    let r = house-back h (x .0) (x .1) in
+    ap read (sym (same (x .2))) ∙ read-function (x .0) f (r .2) ∙ ap (λ (i : ℕ). accepted (function i f)) (r .1)
+read-after-write (extended h u d c) ps b e =
+    let x = then-accepted (houseCode h) (λ k. andThen (unitCode u) (λ m. accepted (standard k extended1 1 ++ extension m d c))) ps e in
+    let y = then-accepted (unitCode u) (λ m. accepted (standard (x .0) extended1 1 ++ extension m d c)) ps (x .2) in
+    let r = house-back h (x .0) (x .1) in
+    let s = unit-back u (y .0) (y .1) in
+    ap read (sym (same (y .2)))
+    ∙ read-extended (x .0) (y .0) d c (r .2) (s .1) (b .0) (b .1)
+    ∙ ap₂ (λ (i j : ℕ). accepted (extended i j d c)) (r .1) (s .0)

@@ -26,11 +26,11 @@ module _ (u : ℕ) where
 
   pub unit-past : (u ≡ 0 → ⊥) → 16 < u → unitCode u ≡ refused 8
   unfolding unitCode
-  unit-past n p = simp (ne-eqb u 0 n, lt-ltb 15 (u - 1) (omega arith))
+  unit-past n p = simp (ne-eqb u 0 n) (house-past (u - 1) (omega arith))
 
   pub unit-listed : (u ≡ 0 → ⊥) → u ≤ 16 → unitCode u ≡ accepted (codeAt (u - 1))
   unfolding unitCode
-  unit-listed n p = simp (ne-eqb u 0 n, le-ltb 15 (u - 1) (omega arith))
+  unit-listed n p = simp (ne-eqb u 0 n) (house-listed (u - 1) (omega arith))
 
 module _ (h u d c : ℕ) (f : Function) where
   pub unit-no-house : houseCode h ≡ refused 8 → write (unit h u) ≡ refused 8

@@ -16,7 +16,7 @@ use Rattle.x10.specs.Places.{arePlaces, startCode, startsWith, paired, b
 use Rattle.x10.specs.Pattern.{Message, unit, function, extended, ending, readRest, readFunction, readKey, read, standard, extension, write}
 use Rattle.x10.proofs.Laws.Bits.{and-left, and-right, spelled-back}
 use Rattle.x10.proofs.Laws.Codes.{code-at-index, index-small, found-code}
-use Rattle.answer.proofs.Laws.Test.{not-accepted, passed, same}
+use Rattle.answer.proofs.Laws.Test.{passed, same, then-accepted}
 use Rattle.x10.proofs.Laws.Write.{house-listed, unit-listed, unit-written, function-written, extended-written}
 
 -- a part of a list in two
@@ -124,50 +124,36 @@ module _ (ps : List ℕ) (m : Message) (long : 22 ≤ length ps) (start : take 4
   rest-back : (h k d : ℕ) → spelled (slice 4 12 ps) ≡ accepted h → spelled (slice 12 20 ps) ≡ accepted k
       → spelled (slice 20 22 ps) ≡ accepted d → k ≡ extended1 → d ≡ 1 → readRest ps h ≡ accepted m → write m ≡ accepted ps
   unfolding readRest
-  rest-back h k d eh ek ed ee ed1 e = go (spelled (slice 22 30 ps)) refl (spelled (slice 30 46 ps)) refl (spelled (slice 46 62 ps)) refl (q .1)
-    where
-      o : Outcome ℕ → Outcome ℕ → Outcome ℕ → Outcome Message
-      o a b c =
-          andThen a λ u.
-          andThen b λ x.
-          andThen c λ y.
-          ending 62 ps (extended (indexOf h) (indexOf u + 1) x y)
-
-      o₀ : Outcome Message
-      o₀ = o (spelled (slice 22 30 ps)) (spelled (slice 30 46 ps)) (spelled (slice 46 62 ps))
-
-      p : (ltb (length ps) 62 ≡ false) × (refuseIf (not (arePlaces (slice 22 62 ps))) 8 o₀ ≡ accepted m)
-      p = passed (ltb (length ps) 62) 1 (refuseIf (not (arePlaces (slice 22 62 ps))) 8 o₀) m e
-
-      q : (not (arePlaces (slice 22 62 ps)) ≡ false) × (o₀ ≡ accepted m)
-      q = passed (not (arePlaces (slice 22 62 ps))) 8 o₀ m (p .1)
-
-      go : (a : Outcome ℕ) → spelled (slice 22 30 ps) ≡ a → (b : Outcome ℕ) → spelled (slice 30 46 ps) ≡ b
-          → (c : Outcome ℕ) → spelled (slice 46 62 ps) ≡ c → o a b c ≡ accepted m → write m ≡ accepted ps
-      go (refused n) ea b eb c ec e = absurd (not-accepted _ _ e)
-      go (accepted u) ea (refused n) eb c ec e = absurd (not-accepted _ _ e)
-      go (accepted u) ea (accepted x) eb (refused n) ec e = absurd (not-accepted _ _ e)
-      go (accepted u) ea (accepted x) eb (accepted y) ec e =
-          let r = ending-back 62 ps (extended (indexOf h) (indexOf u + 1) x y) m e in
-          ap write (sym (r .1))
-          ∙ extended-back ps long start h k d eh ek ed u x y (ltb-false (length ps) 62 (p .0)) ea eb ec (r .0) ee ed1
+  rest-back h k d eh ek ed ee ed1 e =
+      let p = passed (ltb (length ps) 62) 1 _ m e in
+      let q = passed (not (arePlaces (slice 22 62 ps))) 8 _ m (p .1) in
+      let u = then-accepted (spelled (slice 22 30 ps)) _ m (q .1) in
+      let x = then-accepted (spelled (slice 30 46 ps)) _ m (u .2) in
+      let y = then-accepted (spelled (slice 46 62 ps)) _ m (x .2) in
+      let r = ending-back 62 ps (extended (indexOf h) (indexOf (u .0) + 1) (x .0) (y .0)) m (y .2) in
+      ap write (sym (r .1))
+      ∙ extended-back ps long start h k d eh ek ed (u .0) (x .0) (y .0) (ltb-false (length ps) 62 (p .0)) (u .1) (x .1) (y .1) (r .0) ee ed1
 
   function-read : (h k d : ℕ) → spelled (slice 4 12 ps) ≡ accepted h → spelled (slice 12 20 ps) ≡ accepted k
       → spelled (slice 20 22 ps) ≡ accepted d → d ≡ 1 → readFunction ps h k ≡ accepted m → write m ≡ accepted ps
   unfolding readFunction
-  function-read h k d eh ek ed ed1 e = go (eqb k extended1) refl (functionOf k) refl e
+  function-read h k d eh ek ed ed1 e = go (eqb k extended1) refl e
     where
-      go : (t : Bool) → eqb k extended1 ≡ t → (o : Outcome Function) → functionOf k ≡ o
-          → cond t (readRest ps h) (andThen o λ f. ending 22 ps (function (indexOf h) f)) ≡ accepted m → write m ≡ accepted ps
-      go true et o eo e = rest-back h k d eh ek ed (eqb-true k extended1 et) ed1 e
-      go false et (refused n) eo e = absurd (not-accepted _ _ e)
-      go false et (accepted f) eo e =
-          let r = ending-back 22 ps (function (indexOf h) f) m e in
-          ap write (sym (r .1)) ∙ function-back ps long start h k d eh ek ed f (r .0) ed1 eo
+      go : (t : Bool) → eqb k extended1 ≡ t
+          → cond t (readRest ps h) (andThen (functionOf k) λ f. ending 22 ps (function (indexOf h) f)) ≡ accepted m → write m ≡ accepted ps
+      go true et e = rest-back h k d eh ek ed (eqb-true k extended1 et) ed1 e
+      go false et e =
+          let f = then-accepted (functionOf k) (λ f. ending 22 ps (function (indexOf h) f)) m e in
+          let r = ending-back 22 ps (function (indexOf h) (f .0)) m (f .2) in
+          ap write (sym (r .1)) ∙ function-back ps long start h k d eh ek ed (f .0) (r .0) ed1 (f .1)
 
   key-read : readKey ps ≡ accepted m → write m ≡ accepted ps
   unfolding readKey
-  key-read e = go (spelled (slice 4 12 ps)) refl (spelled (slice 12 20 ps)) refl (spelled (slice 20 22 ps)) refl e
+  key-read e =
+      let h = then-accepted (spelled (slice 4 12 ps)) _ m e in
+      let k = then-accepted (spelled (slice 12 20 ps)) _ m (h .2) in
+      let d = then-accepted (spelled (slice 20 22 ps)) _ m (k .2) in
+      by-d16 (h .0) (k .0) (d .0) (h .1) (k .1) (d .1) (eqb (d .0) 0) refl (d .2)
     where
       by-d16 : (h k d : ℕ) → spelled (slice 4 12 ps) ≡ accepted h → spelled (slice 12 20 ps) ≡ accepted k
           → spelled (slice 20 22 ps) ≡ accepted d → (t : Bool) → eqb d 0 ≡ t
@@ -179,16 +165,6 @@ module _ (ps : List ℕ) (m : Message) (long : 22 ≤ length ps) (start : take 4
           let n : d ≡ 0 → ⊥ = eqb-false d 0 et in
           let s : d < 2 = d16-small ps long start h k d eh ek ed in
           function-read h k d eh ek ed (omega arith) e
-
-      go : (a : Outcome ℕ) → spelled (slice 4 12 ps) ≡ a → (b : Outcome ℕ) → spelled (slice 12 20 ps) ≡ b
-          → (c : Outcome ℕ) → spelled (slice 20 22 ps) ≡ c
-          → (andThen a λ h. andThen b λ k. andThen c λ d.
-          cond (eqb d 0) (ending 22 ps (unit (indexOf h) (indexOf k + 1))) (readFunction ps h k)) ≡ accepted m
-          → write m ≡ accepted ps
-      go (refused n) ea b eb c ec e = absurd (not-accepted _ _ e)
-      go (accepted h) ea (refused n) eb c ec e = absurd (not-accepted _ _ e)
-      go (accepted h) ea (accepted k) eb (refused n) ec e = absurd (not-accepted _ _ e)
-      go (accepted h) ea (accepted k) eb (accepted d) ec e = by-d16 h k d ea eb ec (eqb d 0) refl e
 
 pub write-after-read : (ps : List ℕ) (m : Message) → read ps ≡ accepted m → write m ≡ accepted ps
 write-after-read ps m e =

@@ -4,7 +4,7 @@ use denote.Ref.{now}
 use Rattle.answer.specs.Answer.{refused, accepted}
 use Rattle.x10.specs.Codes.{functionOf}
 use Rattle.x10.specs.Pattern.{writeFunctionCode}
-use Rattle.x10.specs.Answers.{lookupOf}
+use Rattle.x10.specs.Parts.{lookupOf}
 use Rattle.x10.proofs.Laws.Write.{code-unknown, code-known, refuses, hands-on}
 use borrow.Author.Needs.{needs}
 use Rattle.x10.proofs.write_function_code.Statement.{statement}

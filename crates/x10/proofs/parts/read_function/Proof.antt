@@ -7,7 +7,7 @@ use lib.ListN.{length}
 use Rattle.answer.specs.Answer.{refused, accepted}
 use Rattle.x10.specs.Codes.{indexOf, functionOf}
 use Rattle.x10.specs.Pattern.{function}
-use Rattle.x10.specs.Answers.{lookupOf}
+use Rattle.x10.specs.Parts.{lookupOf}
 use Rattle.x10.proofs.Laws.Pattern.{function-extended, function-unknown, function-known, ends, goes-on}
 use borrow.Author.Needs.{needs}
 use Rattle.x10.proofs.parts.read_function.Statement.{statement}

@@ -7,7 +7,7 @@ use lib.ListN.{length}
 use lib.Seq.{slice, length-slice}
 use Rattle.answer.specs.Answer.{refused, accepted}
 use Rattle.x10.specs.Places.{spelled}
-use Rattle.x10.specs.Answers.{spellingOf}
+use Rattle.x10.specs.Parts.{spellingOf}
 use Rattle.x10.proofs.Laws.Bits.{spelled-back}
 use Rattle.x10.proofs.Laws.Pattern.{house-wrong, key-wrong, d16-wrong, key-unit, key-function}
 use borrow.Author.Needs.{needs}

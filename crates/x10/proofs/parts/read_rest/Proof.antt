@@ -11,7 +11,7 @@ use Rattle.answer.specs.Answer.{refused, accepted}
 use Rattle.x10.specs.Codes.{indexOf}
 use Rattle.x10.specs.Places.{arePlaces, spelled}
 use Rattle.x10.specs.Pattern.{extended}
-use Rattle.x10.specs.Answers.{spellingOf}
+use Rattle.x10.specs.Parts.{spellingOf}
 use Rattle.x10.proofs.Laws.Codes.{index-small}
 use Rattle.x10.proofs.Laws.Bits.{spelled-back}
 use Rattle.x10.proofs.Laws.Pattern.{rest-short, rest-field, rest-key-wrong, data-wrong, command-wrong, rest-read, ends, goes-on}
