@@ -43,12 +43,15 @@ space = 0x20
 abbrev pub lineFeed : ℕ
 lineFeed = 0x0A
 
+-- a number, and the byte that closes it
+abbrev pub field : ℕ → ℕ → List ℕ
+field n closing = number n ++ (closing ∷ [])
+
 -- the text of a line: its word and its numbers, closed by one line feed
 unfoldable pub lineText : Line → List ℕ
-lineText (noise offset count) = noiseWord ++ (number offset ++ (space ∷ (number count ++ (lineFeed ∷ []))))
-lineText (frame offset count kind) =
-    frameWord ++ (number offset ++ (space ∷ (number count ++ (space ∷ (number kind ++ (lineFeed ∷ []))))))
-lineText (end offset) = endWord ++ (number offset ++ (lineFeed ∷ []))
+lineText (noise offset count) = noiseWord ++ (field offset space ++ field count lineFeed)
+lineText (frame offset count kind) = frameWord ++ (field offset space ++ (field count space ++ field kind lineFeed))
+lineText (end offset) = endWord ++ field offset lineFeed
 
 unfoldable pub text : List Line → List ℕ
 text [] = []

@@ -6,7 +6,7 @@ ghost use mathlib.Core.List.{[], _∷_};
 ghost use Prim.Native.Nat.{_+_, _<_, _≤_};
 ghost use lib.ListN.{length};
 ghost use Rattle.listing.specs.Lines.{noise, frame, end};
-ghost use Rattle.listing.specs.Text.{lineText, noiseWord, frameWord, endWord};
+ghost use Rattle.listing.specs.Text.{lineText, endWord, field, space};
 ghost use Rattle.listing.specs.Parts.{Put, runText};
 
 const SPACE: u8 = 0x20;
@@ -41,37 +41,17 @@ pub(crate) fn end_size(offset: usize) -> usize
     digit_count(offset) + 5
 }
 
-fn put_byte(b: u8, out: &mut [u8], at: usize) -> usize
-    requires { ⌜ at + 1 ≤ length (now out) ⌝ }
-    ensures { λ r. ⌜ Put at (b ∷ []) (now (out .entry)) (now (out .exit)) r ⌝ }
-{
-    out[at] = b;
-    at + 1
-}
-
-fn put_noise_word(out: &mut [u8], at: usize) -> usize
+// Writes a word of five letters, and a space.
+fn put_word(a: u8, b: u8, c: u8, d: u8, e: u8, out: &mut [u8], at: usize) -> usize
     requires { ⌜ at + 6 ≤ length (now out) ⌝ }
-    ensures { λ r. ⌜ Put at noiseWord (now (out .entry)) (now (out .exit)) r ⌝ }
+    ensures { λ r. ⌜ Put at (a ∷ b ∷ c ∷ d ∷ e ∷ space ∷ []) (now (out .entry)) (now (out .exit)) r ⌝ }
 {
-    out[at] = b'n';
-    out[at + 1] = b'o';
-    out[at + 2] = b'i';
-    out[at + 3] = b's';
-    out[at + 4] = b'e';
-    out[at + 5] = b' ';
-    at + 6
-}
-
-fn put_frame_word(out: &mut [u8], at: usize) -> usize
-    requires { ⌜ at + 6 ≤ length (now out) ⌝ }
-    ensures { λ r. ⌜ Put at frameWord (now (out .entry)) (now (out .exit)) r ⌝ }
-{
-    out[at] = b'f';
-    out[at + 1] = b'r';
-    out[at + 2] = b'a';
-    out[at + 3] = b'm';
-    out[at + 4] = b'e';
-    out[at + 5] = b' ';
+    out[at] = a;
+    out[at + 1] = b;
+    out[at + 2] = c;
+    out[at + 3] = d;
+    out[at + 4] = e;
+    out[at + 5] = SPACE;
     at + 6
 }
 
@@ -86,17 +66,26 @@ fn put_end_word(out: &mut [u8], at: usize) -> usize
     at + 4
 }
 
+// Writes a number, and the byte that closes it.
+fn put_field(n: usize, closing: u8, out: &mut [u8], at: usize) -> usize
+    requires { ⌜ n < 10000 ⌝ }
+    requires { ⌜ at + length (field n closing) ≤ length (now out) ⌝ }
+    ensures { λ r. ⌜ Put at (field n closing) (now (out .entry)) (now (out .exit)) r ⌝ }
+{
+    let next = put_number(n, out, at);
+    out[next] = closing;
+    next + 1
+}
+
 fn put_noise(offset: usize, count: usize, out: &mut [u8], at: usize) -> usize
     requires { ⌜ offset < 10000 ⌝ }
     requires { ⌜ count < 10000 ⌝ }
     requires { ⌜ at + length (lineText (noise offset count)) ≤ length (now out) ⌝ }
     ensures { λ r. ⌜ Put at (lineText (noise offset count)) (now (out .entry)) (now (out .exit)) r ⌝ }
 {
-    let first = put_noise_word(out, at);
-    let second = put_number(offset, out, first);
-    let third = put_byte(SPACE, out, second);
-    let fourth = put_number(count, out, third);
-    put_byte(LINE_FEED, out, fourth)
+    let first = put_word(b'n', b'o', b'i', b's', b'e', out, at);
+    let second = put_field(offset, SPACE, out, first);
+    put_field(count, LINE_FEED, out, second)
 }
 
 // Writes a run's line: none where the run is empty.
@@ -125,13 +114,10 @@ pub(crate) fn put_frame(
     requires { ⌜ at + length (lineText (frame offset count kind)) ≤ length (now out) ⌝ }
     ensures { λ r. ⌜ Put at (lineText (frame offset count kind)) (now (out .entry)) (now (out .exit)) r ⌝ }
 {
-    let first = put_frame_word(out, at);
-    let second = put_number(offset, out, first);
-    let third = put_byte(SPACE, out, second);
-    let fourth = put_number(count, out, third);
-    let fifth = put_byte(SPACE, out, fourth);
-    let sixth = put_number(kind, out, fifth);
-    put_byte(LINE_FEED, out, sixth)
+    let first = put_word(b'f', b'r', b'a', b'm', b'e', out, at);
+    let second = put_field(offset, SPACE, out, first);
+    let third = put_field(count, SPACE, out, second);
+    put_field(kind, LINE_FEED, out, third)
 }
 
 pub(crate) fn put_end(offset: usize, out: &mut [u8], at: usize) -> usize
@@ -140,6 +126,5 @@ pub(crate) fn put_end(offset: usize, out: &mut [u8], at: usize) -> usize
     ensures { λ r. ⌜ Put at (lineText («end» offset)) (now (out .entry)) (now (out .exit)) r ⌝ }
 {
     let first = put_end_word(out, at);
-    let second = put_number(offset, out, first);
-    put_byte(LINE_FEED, out, second)
+    put_field(offset, LINE_FEED, out, first)
 }

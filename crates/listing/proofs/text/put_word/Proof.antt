@@ -2,8 +2,8 @@ use borrow.Author.Needs.{needs}
 use lib.ListN.{length-set}
 use native.Mathlib.Omega.{arith}
 use Rattle.listing.proofs.Laws.Output.{stored₆}
-use Rattle.listing.proofs.text.put_noise_word.Statement.{statement}
-use Rattle.listing.proofs.text.put_noise_word.Tie as tie
+use Rattle.listing.proofs.text.put_word.Statement.{statement}
+use Rattle.listing.proofs.text.put_word.Tie as tie
 
 slice-write-out : tie.Need-slice-write-out
 slice-write-out c = search needs
@@ -45,10 +45,12 @@ same-length : tie.Need-same-length
 same-length c = search needs
 
 returns : tie.Need-returns
-returns c = stored₆ (c .args .out .now) (c .args .at) 0x6E 0x6F 0x69 0x73 0x65 0x20 (c .pre)
+returns c =
+    let w = c .args in
+    stored₆ (w .out .now) (w .at) (w .a) (w .b) (w .c) (w .d) (w .e) 0x20 (c .pre)
 
-pub put-noise-word-spec : {M : Type 1} → statement M
-put-noise-word-spec =
+pub put-word-spec : {M : Type 1} → statement M
+put-word-spec =
     tie.close
     (tie.spec
     slice-write-out
