@@ -41,110 +41,43 @@ noise-at t = and 2 noise-kinds.ps (is 2 noise-kinds.ps μ-noise t) noise.Pre
 abbrev noise-below : ℕ → In 2 noise-kinds.ps
 noise-below t = and 2 noise-kinds.ps (falls 2 noise-kinds.ps _<_ μ-noise t) noise.Pre
 
-frame-add-count : (t : ℕ) → frame-lts.Need-add-count (
-  put-frame-reads.Asked,
-  put-frame-reads.Learnt,
-  noise-below t,
-  noise.Post,
-) (frame-at t) frame.Post
+-- what each function's calls promise
+abbrev frame-calls : ℕ → frame-lts.Claims
+frame-calls t = (put-frame-reads.Asked, put-frame-reads.Learnt, noise-below t, noise.Post)
+
+abbrev noise-calls : ℕ → noise-lts.Claims
+noise-calls t = (next-frame-reads.Asked, next-frame-reads.Learnt, put-run-reads.Asked, put-run-reads.Learnt, frame-below t, frame.Post)
+
+frame-add-count : (t : ℕ) → frame-lts.Need-add-count (frame-calls t) (frame-at t) frame.Post
 frame-add-count t c =
-    let a = c .before .before .args in
-    let s = a .bytes .now in
-    let pre = c .before .before .pre .1 in
-    let h = pre .1 .0 in
-    let whole = whole-inside s (a .at) h in
-    omega (arith, whole, pre .0)
+    let start = c .before .before in
+    omega (arith, whole-inside (start .args .bytes .now) (start .args .at) (start .pre .1 .1 .0), start .pre .1 .0)
 
-frame-shared-slice-read-count : (t : ℕ) → frame-lts.Need-shared-slice-read-count (
-  put-frame-reads.Asked,
-  put-frame-reads.Learnt,
-  noise-below t,
-  noise.Post,
-) (frame-at t) frame.Post
+frame-shared-slice-read-count : (t : ℕ) → frame-lts.Need-shared-slice-read-count (frame-calls t) (frame-at t) frame.Post
 frame-shared-slice-read-count t c =
-    let a = c .before .before .before .args in
-    let s = a .bytes .now in
-    let pre = c .before .before .before .pre .1 in
-    let h = pre .1 .0 in
-    let whole = whole-inside s (a .at) h in
-    omega (arith, whole)
+    let start = c .before .before .before in
+    omega (arith, whole-inside (start .args .bytes .now) (start .args .at) (start .pre .1 .1 .0))
 
-frame-cast-count : (t : ℕ) → frame-lts.Need-cast-count (
-  put-frame-reads.Asked,
-  put-frame-reads.Learnt,
-  noise-below t,
-  noise.Post,
-) (frame-at t) frame.Post
-frame-cast-count t c =
-    let a = c .before .before .before .args in
-    let s = a .bytes .now in
-    let pre = c .before .before .before .pre .1 in
-    let h = pre .1 .0 in
-    let whole = whole-inside s (a .at) h in
-    omega (arith, c .shared-slice-known2 .given (a .at + 1))
+frame-cast-count : (t : ℕ) → frame-lts.Need-cast-count (frame-calls t) (frame-at t) frame.Post
+frame-cast-count t c = omega (arith, c .shared-slice-known2 .given (c .before .before .before .args .at + 1))
 
-frame-add-count-2 : (t : ℕ) → frame-lts.Need-add-count-2 (
-  put-frame-reads.Asked,
-  put-frame-reads.Learnt,
-  noise-below t,
-  noise.Post,
-) (frame-at t) frame.Post
-frame-add-count-2 t c =
-    let a = c .before .before .before .args in
-    let s = a .bytes .now in
-    let pre = c .before .before .before .pre .1 in
-    let h = pre .1 .0 in
-    let whole = whole-inside s (a .at) h in
-    omega (arith, c .shared-slice-known2 .given (a .at + 1))
+frame-add-count-2 : (t : ℕ) → frame-lts.Need-add-count-2 (frame-calls t) (frame-at t) frame.Post
+frame-add-count-2 t c = omega (arith, c .shared-slice-known2 .given (c .before .before .before .args .at + 1))
 
-frame-add-put-frame : (t : ℕ) → frame-lts.Need-add-put-frame (
-  put-frame-reads.Asked,
-  put-frame-reads.Learnt,
-  noise-below t,
-  noise.Post,
-) (frame-at t) frame.Post
+frame-add-put-frame : (t : ℕ) → frame-lts.Need-add-put-frame (frame-calls t) (frame-at t) frame.Post
 frame-add-put-frame t c =
-    let a = c .before .before .before .args in
-    let s = a .bytes .now in
-    let pre = c .before .before .before .pre .1 in
-    let h = pre .1 .0 in
-    let whole = whole-inside s (a .at) h in
-    omega (arith, whole, pre .0)
+    let start = c .before .before .before in
+    omega (arith, whole-inside (start .args .bytes .now) (start .args .at) (start .pre .1 .1 .0), start .pre .1 .0)
 
-frame-shared-slice-read-put-frame : (t : ℕ) → frame-lts.Need-shared-slice-read-put-frame (
-  put-frame-reads.Asked,
-  put-frame-reads.Learnt,
-  noise-below t,
-  noise.Post,
-) (frame-at t) frame.Post
+frame-shared-slice-read-put-frame : (t : ℕ) → frame-lts.Need-shared-slice-read-put-frame (frame-calls t) (frame-at t) frame.Post
 frame-shared-slice-read-put-frame t c =
-    let a = c .before .before .before .before .args in
-    let s = a .bytes .now in
-    let pre = c .before .before .before .before .pre .1 in
-    let h = pre .1 .0 in
-    let whole = whole-inside s (a .at) h in
-    omega (arith, whole)
+    let start = c .before .before .before .before in
+    omega (arith, whole-inside (start .args .bytes .now) (start .args .at) (start .pre .1 .1 .0))
 
-frame-cast-put-frame : (t : ℕ) → frame-lts.Need-cast-put-frame (
-  put-frame-reads.Asked,
-  put-frame-reads.Learnt,
-  noise-below t,
-  noise.Post,
-) (frame-at t) frame.Post
-frame-cast-put-frame t c =
-    let a = c .before .before .before .before .args in
-    let s = a .bytes .now in
-    let pre = c .before .before .before .before .pre .1 in
-    let h = pre .1 .0 in
-    let whole = whole-inside s (a .at) h in
-    omega (arith, c .shared-slice-known3 .given (a .at + 2))
+frame-cast-put-frame : (t : ℕ) → frame-lts.Need-cast-put-frame (frame-calls t) (frame-at t) frame.Post
+frame-cast-put-frame t c = omega (arith, c .shared-slice-known3 .given (c .before .before .before .before .args .at + 2))
 
-frame-put-frame-requires : (t : ℕ) → frame-lts.Need-put-frame-requires (
-  put-frame-reads.Asked,
-  put-frame-reads.Learnt,
-  noise-below t,
-  noise.Post,
-) (frame-at t) frame.Post
+frame-put-frame-requires : (t : ℕ) → frame-lts.Need-put-frame-requires (frame-calls t) (frame-at t) frame.Post
 frame-put-frame-requires t c κs =
     let a = c .before .before .before .before .before .args in
     let s = a .bytes .now in
@@ -162,34 +95,15 @@ frame-put-frame-requires t c κs =
       ),
     )
 
-frame-add-from : (t : ℕ) → frame-lts.Need-add-from (
-  put-frame-reads.Asked,
-  put-frame-reads.Learnt,
-  noise-below t,
-  noise.Post,
-) (frame-at t) frame.Post
+frame-add-from : (t : ℕ) → frame-lts.Need-add-from (frame-calls t) (frame-at t) frame.Post
 frame-add-from t c =
-    let a = c .before .before .before .before .before .before .before .before .args in
-    let s = a .bytes .now in
-    let pre = c .before .before .before .before .before .before .before .before .pre .1 in
-    let h = pre .1 .0 in
-    let whole = whole-inside s (a .at) h in
-    omega (arith, whole, pre .0)
+    let start = c .before .before .before .before .before .before .before .before in
+    omega (arith, whole-inside (start .args .bytes .now) (start .args .at) (start .pre .1 .1 .0), start .pre .1 .0)
 
-frame-same-length : (t : ℕ) → frame-lts.Need-same-length (
-  put-frame-reads.Asked,
-  put-frame-reads.Learnt,
-  noise-below t,
-  noise.Post,
-) (frame-at t) frame.Post
+frame-same-length : (t : ℕ) → frame-lts.Need-same-length (frame-calls t) (frame-at t) frame.Post
 frame-same-length t c = c .before .before .before .put-frame .kept .1 .1 .1 .0
 
-frame-returns : (t : ℕ) → frame-lts.Need-returns (
-  put-frame-reads.Asked,
-  put-frame-reads.Learnt,
-  noise-below t,
-  noise.Post,
-) (frame-at t) frame.Post
+frame-returns : (t : ℕ) → frame-lts.Need-returns (frame-calls t) (frame-at t) frame.Post
 frame-returns t c =
     let a = c .before .before .before .before .before .before .before .before .before .args in
     let s = a .bytes .now in
@@ -198,12 +112,7 @@ frame-returns t c =
     let whole = whole-inside s (a .at) h in
     wrote-part (lineText (frameLine (a .at) (getD s (a .at + 1) 0 + 4) (getD s (a .at + 2) 0))) (c .before .before .before .put-frame .ensures) (frame-then s (a .at) h) (omega arith) whole
 
-frame-noise-requires : (t : ℕ) → frame-lts.Need-noise-requires (
-  put-frame-reads.Asked,
-  put-frame-reads.Learnt,
-  noise-below t,
-  noise.Post,
-) (frame-at t) frame.Post
+frame-noise-requires : (t : ℕ) → frame-lts.Need-noise-requires (frame-calls t) (frame-at t) frame.Post
 frame-noise-requires t c κs =
     let a = c .before .before .before .before .before .before .before .before .before .before .args in
     let s = a .bytes .now in
@@ -215,20 +124,10 @@ frame-noise-requires t c κs =
       (pre .0, (omega (arith, c .before .if1 .left, pre .1 .1 .0), (pre .1 .1 .0, next-fits (rest s (a .at + (getD s (a .at + 1) 0 + 4))) (c .before .before .before .before .put-frame .ensures) room))),
     )
 
-frame-same-length-2 : (t : ℕ) → frame-lts.Need-same-length-2 (
-  put-frame-reads.Asked,
-  put-frame-reads.Learnt,
-  noise-below t,
-  noise.Post,
-) (frame-at t) frame.Post
+frame-same-length-2 : (t : ℕ) → frame-lts.Need-same-length-2 (frame-calls t) (frame-at t) frame.Post
 frame-same-length-2 t c = c .before .before .noise .kept .1 .1 .0 ∙ c .before .before .before .before .before .before .before .put-frame .kept .1 .1 .1 .0
 
-frame-returns-2 : (t : ℕ) → frame-lts.Need-returns-2 (
-  put-frame-reads.Asked,
-  put-frame-reads.Learnt,
-  noise-below t,
-  noise.Post,
-) (frame-at t) frame.Post
+frame-returns-2 : (t : ℕ) → frame-lts.Need-returns-2 (frame-calls t) (frame-at t) frame.Post
 frame-returns-2 t c =
     let a = c .before .before .before .before .before .before .before .before .before .before .before .before .before .args in
     let s = a .bytes .now in
@@ -237,34 +136,13 @@ frame-returns-2 t c =
     let whole = whole-inside s (a .at) h in
     wrote-next (lineText (frameLine (a .at) (getD s (a .at + 1) 0 + 4) (getD s (a .at + 2) 0))) (c .before .before .before .before .before .before .before .put-frame .ensures) (frame-then s (a .at) h) (omega arith) (c .before .before .noise .ensures)
 
-noise-next-frame-requires : (t : ℕ) → noise-lts.Need-next-frame-requires (
-  next-frame-reads.Asked,
-  next-frame-reads.Learnt,
-  put-run-reads.Asked,
-  put-run-reads.Learnt,
-  frame-below t,
-  frame.Post,
-) (noise-at t) noise.Post
+noise-next-frame-requires : (t : ℕ) → noise-lts.Need-next-frame-requires (noise-calls t) (noise-at t) noise.Post
 noise-next-frame-requires t c κs = omega (arith, c .before .before .pre .1 .1 .0)
 
-noise-sub-put-run : (t : ℕ) → noise-lts.Need-sub-put-run (
-  next-frame-reads.Asked,
-  next-frame-reads.Learnt,
-  put-run-reads.Asked,
-  put-run-reads.Learnt,
-  frame-below t,
-  frame.Post,
-) (noise-at t) noise.Post
+noise-sub-put-run : (t : ℕ) → noise-lts.Need-sub-put-run (noise-calls t) (noise-at t) noise.Post
 noise-sub-put-run t c = c .next-frame .ensures .0 .forward
 
-noise-put-run-requires : (t : ℕ) → noise-lts.Need-put-run-requires (
-  next-frame-reads.Asked,
-  next-frame-reads.Learnt,
-  put-run-reads.Asked,
-  put-run-reads.Learnt,
-  frame-below t,
-  frame.Post,
-) (noise-at t) noise.Post
+noise-put-run-requires : (t : ℕ) → noise-lts.Need-put-run-requires (noise-calls t) (noise-at t) noise.Post
 noise-put-run-requires t c κs =
     let a = c .before .before .before .before .args in
     let s = a .bytes .now in
@@ -277,24 +155,10 @@ noise-put-run-requires t c κs =
       (omega (arith, q .within, q .forward, pre .0), first-fits _ _ (runText (a .from) (at - a .from)) (rest s at) room),
     )
 
-noise-same-length : (t : ℕ) → noise-lts.Need-same-length (
-  next-frame-reads.Asked,
-  next-frame-reads.Learnt,
-  put-run-reads.Asked,
-  put-run-reads.Learnt,
-  frame-below t,
-  frame.Post,
-) (noise-at t) noise.Post
+noise-same-length : (t : ℕ) → noise-lts.Need-same-length (noise-calls t) (noise-at t) noise.Post
 noise-same-length t c = c .before .before .before .put-run .kept .1 .1 .0
 
-noise-returns : (t : ℕ) → noise-lts.Need-returns (
-  next-frame-reads.Asked,
-  next-frame-reads.Learnt,
-  put-run-reads.Asked,
-  put-run-reads.Learnt,
-  frame-below t,
-  frame.Post,
-) (noise-at t) noise.Post
+noise-returns : (t : ℕ) → noise-lts.Need-returns (noise-calls t) (noise-at t) noise.Post
 noise-returns t c =
     let a = c .before .before .before .before .before .before .before .before .args in
     let s = a .bytes .now in
@@ -305,14 +169,7 @@ noise-returns t c =
     wrote-part (runText (a .from) (at - a .from)) (c .before .before .before .put-run .ensures) (noise-then s (a .from) at q found)
     (omega (arith, c .if1 .taken, pre .1 .0)) (q .within)
 
-noise-frame-requires : (t : ℕ) → noise-lts.Need-frame-requires (
-  next-frame-reads.Asked,
-  next-frame-reads.Learnt,
-  put-run-reads.Asked,
-  put-run-reads.Learnt,
-  frame-below t,
-  frame.Post,
-) (noise-at t) noise.Post
+noise-frame-requires : (t : ℕ) → noise-lts.Need-frame-requires (noise-calls t) (noise-at t) noise.Post
 noise-frame-requires t c κs =
     let a = c .before .before .before .before .before .before .before .before .before .args in
     let s = a .bytes .now in
@@ -326,24 +183,10 @@ noise-frame-requires t c κs =
       (pre .0, (found inside, (pre .1 .1 .0, next-fits (rest s at) (c .before .before .before .before .put-run .ensures) room))),
     )
 
-noise-same-length-2 : (t : ℕ) → noise-lts.Need-same-length-2 (
-  next-frame-reads.Asked,
-  next-frame-reads.Learnt,
-  put-run-reads.Asked,
-  put-run-reads.Learnt,
-  frame-below t,
-  frame.Post,
-) (noise-at t) noise.Post
+noise-same-length-2 : (t : ℕ) → noise-lts.Need-same-length-2 (noise-calls t) (noise-at t) noise.Post
 noise-same-length-2 t c = c .before .before .frame .kept .1 .1 .0 ∙ c .before .before .before .before .before .before .before .put-run .kept .1 .1 .0
 
-noise-returns-2 : (t : ℕ) → noise-lts.Need-returns-2 (
-  next-frame-reads.Asked,
-  next-frame-reads.Learnt,
-  put-run-reads.Asked,
-  put-run-reads.Learnt,
-  frame-below t,
-  frame.Post,
-) (noise-at t) noise.Post
+noise-returns-2 : (t : ℕ) → noise-lts.Need-returns-2 (noise-calls t) (noise-at t) noise.Post
 noise-returns-2 t c =
     let a = c .before .before .before .before .before .before .before .before .before .before .before .before .args in
     let s = a .bytes .now in
@@ -354,12 +197,7 @@ noise-returns-2 t c =
     wrote-next (runText (a .from) (at - a .from)) (c .before .before .before .before .before .before .before .put-run .ensures) (noise-then s (a .from) at q found) (q .forward) (c .before .before .frame .ensures)
 
 pub +frame+noise-spec : {M : Type 1} → statement M
-+frame+noise-spec = close μ-frame μ-noise (λ t. frame-lts.spec (
-  put-frame-reads.Asked,
-  put-frame-reads.Learnt,
-  noise-below t,
-  noise.Post,
-)
++frame+noise-spec = close μ-frame μ-noise (λ t. frame-lts.spec (frame-calls t)
     (frame-at t)
     frame.Post
     (frame-add-count t)
@@ -376,14 +214,7 @@ pub +frame+noise-spec : {M : Type 1} → statement M
     (frame-noise-requires t)
     (frame-same-length-2 t)
     (frame-returns-2 t))
-    λ t. noise-lts.spec (
-      next-frame-reads.Asked,
-      next-frame-reads.Learnt,
-      put-run-reads.Asked,
-      put-run-reads.Learnt,
-      frame-below t,
-      frame.Post,
-    )
+    λ t. noise-lts.spec (noise-calls t)
     (noise-at t)
     noise.Post
     (noise-next-frame-requires t)
