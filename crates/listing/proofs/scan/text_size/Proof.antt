@@ -27,10 +27,6 @@ sub-run-size c = c .next-frame .ensures .0 .forward
 
 run-size-requires : tie.Need-run-size-requires Inv-loop μ-loop
 run-size-requires c κs =
-    let a = c .before .before .before .args in
-    let s = a .bytes .now in
-    let from = c .before .loop .from in
-    let at = c .next-frame .result in
     let q = c .next-frame .ensures .0 in
     omega (arith, q .within, q .forward, c .before .before .before .pre)
 
@@ -48,10 +44,6 @@ add-size c =
 
 end-size-requires : tie.Need-end-size-requires Inv-loop μ-loop
 end-size-requires c κs =
-    let a = c .before .before .before .before .before .args in
-    let s = a .bytes .now in
-    let from = c .before .before .before .loop .from in
-    let at = c .before .before .next-frame .result in
     let q = c .before .before .next-frame .ensures .0 in
     omega (arith, q .within, c .before .before .before .before .before .pre)
 
@@ -79,10 +71,6 @@ returns c =
 
 add-count : tie.Need-add-count Inv-loop μ-loop
 add-count c =
-    let a = c .before .before .before .before .before .args in
-    let s = a .bytes .now in
-    let from = c .before .before .before .loop .from in
-    let at = c .before .before .next-frame .result in
     let q = c .before .before .next-frame .ensures .0 in
     omega (arith, q .within, c .before .before .before .before .before .pre)
 
@@ -90,7 +78,6 @@ shared-slice-read-count : tie.Need-shared-slice-read-count Inv-loop μ-loop
 shared-slice-read-count c =
     let a = c .before .before .before .before .before .before .args in
     let s = a .bytes .now in
-    let from = c .before .before .before .before .loop .from in
     let at = c .before .before .before .next-frame .result in
     let q = c .before .before .before .next-frame .ensures .0 in
     let inside : at < length s = omega (arith, q .within, c .before .if1 .left) in
@@ -100,28 +87,16 @@ shared-slice-read-count c =
 
 cast-count : tie.Need-cast-count Inv-loop μ-loop
 cast-count c =
-    let a = c .before .before .before .before .before .before .args in
-    let s = a .bytes .now in
-    let from = c .before .before .before .before .loop .from in
     let at = c .before .before .before .next-frame .result in
-    let q = c .before .before .before .next-frame .ensures .0 in
     omega (arith, c .shared-slice-known2 .given (at + 1))
 
 add-count-2 : tie.Need-add-count-2 Inv-loop μ-loop
 add-count-2 c =
-    let a = c .before .before .before .before .before .before .args in
-    let s = a .bytes .now in
-    let from = c .before .before .before .before .loop .from in
     let at = c .before .before .before .next-frame .result in
-    let q = c .before .before .before .next-frame .ensures .0 in
     omega (arith, c .shared-slice-known2 .given (at + 1))
 
 add-frame-size : tie.Need-add-frame-size Inv-loop μ-loop
 add-frame-size c =
-    let a = c .before .before .before .before .before .before .args in
-    let s = a .bytes .now in
-    let from = c .before .before .before .before .loop .from in
-    let at = c .before .before .before .next-frame .result in
     let q = c .before .before .before .next-frame .ensures .0 in
     omega (arith, q .within, c .before .before .before .before .before .before .pre)
 
@@ -129,7 +104,6 @@ shared-slice-read-frame-size : tie.Need-shared-slice-read-frame-size Inv-loop μ
 shared-slice-read-frame-size c =
     let a = c .before .before .before .before .before .before .before .args in
     let s = a .bytes .now in
-    let from = c .before .before .before .before .before .loop .from in
     let at = c .before .before .before .before .next-frame .result in
     let q = c .before .before .before .before .next-frame .ensures .0 in
     let inside : at < length s = omega (arith, q .within, c .before .before .if1 .left) in
@@ -139,18 +113,11 @@ shared-slice-read-frame-size c =
 
 cast-frame-size : tie.Need-cast-frame-size Inv-loop μ-loop
 cast-frame-size c =
-    let a = c .before .before .before .before .before .before .before .args in
-    let s = a .bytes .now in
-    let from = c .before .before .before .before .before .loop .from in
     let at = c .before .before .before .before .next-frame .result in
-    let q = c .before .before .before .before .next-frame .ensures .0 in
     omega (arith, c .shared-slice-known3 .given (at + 2))
 
 frame-size-requires : tie.Need-frame-size-requires Inv-loop μ-loop
 frame-size-requires c κs =
-    let a = c .before .before .before .before .before .before .before .args in
-    let s = a .bytes .now in
-    let from = c .before .before .before .before .before .loop .from in
     let at = c .before .before .before .before .next-frame .result in
     let q = c .before .before .before .before .next-frame .ensures .0 in
     omega (arith, q .within, c .before .before .before .before .before .before .before .pre, c .shared-slice-known3 .given (at + 1), c .shared-slice-known3 .given (at + 2))
@@ -174,7 +141,6 @@ add-from : tie.Need-add-from Inv-loop μ-loop
 add-from c =
     let a = c .before .before .before .before .before .before .before .before .args in
     let s = a .bytes .now in
-    let from = c .before .before .before .before .before .before .loop .from in
     let at = c .before .before .before .before .before .next-frame .result in
     let q = c .before .before .before .before .before .next-frame .ensures .0 in
     let inside : at < length s = omega (arith, q .within, c .before .before .before .if1 .left) in
@@ -186,7 +152,6 @@ loop-less : tie.Need-loop-less Inv-loop μ-loop
 loop-less c =
     let a = c .before .before .before .before .before .before .before .before .args in
     let s = a .bytes .now in
-    let from = c .before .before .before .before .before .before .loop .from in
     let at = c .before .before .before .before .before .next-frame .result in
     let q = c .before .before .before .before .before .next-frame .ensures .0 in
     let inside : at < length s = omega (arith, q .within, c .before .before .before .if1 .left) in
