@@ -1,5 +1,5 @@
 -- Document 01, "X-10 patterns": what a pattern says, its reading and its writing.
-use Prim.Native.Nat.{ℕ, _+_}
+use Prim.Native.Nat.{ℕ, _+_, _<_}
 use mathlib.Core.Bool.{not, cond}
 use mathlib.Core.List.{List, _++_}
 use lib.Dec.{eqb, ltb}
@@ -15,6 +15,12 @@ pub data Message : Type 0 where
   unit : ℕ → ℕ → Message
   function : ℕ → Function → Message
   extended : ℕ → ℕ → ℕ → ℕ → Message
+
+-- data and command are bytes
+abbrev pub Bytes : Message → Type 0
+Bytes (unit house u) = Unit {0}
+Bytes (function house f) = Unit {0}
+Bytes (extended house u data′ command) = (data′ < 256) × (command < 256)
 
 -- the last check: 4 where places follow the pattern
 abbrev pub ending : ℕ → List ℕ → Message → Outcome Message

@@ -12,17 +12,11 @@ use Rattle.answer.specs.Answer.{accepted, andThen}
 use Rattle.x10.specs.declared.Function.{Function}
 use Rattle.x10.specs.Codes.{codeAt, indexOf, houseCode, unitCode, functionCode, extended1}
 use Rattle.x10.specs.Places.{arePlaces, startCode, paired, bits, spelled}
-use Rattle.x10.specs.Pattern.{Message, unit, function, extended, ending, readFunction, readKey, read, standard, extension, write}
+use Rattle.x10.specs.Pattern.{Message, Bytes, unit, function, extended, ending, readFunction, readKey, read, standard, extension, write}
 use Rattle.x10.proofs.Laws.Bits.{bits-places, paired-places, spelled-bits}
 use Rattle.x10.proofs.Laws.Codes.{index-of-code, code-small, function-found, code-below, code-plain}
 use Rattle.answer.proofs.Laws.Test.{passed, same, then-accepted}
 use Rattle.x10.proofs.Laws.Pattern.{ends, read-on, key-unit, key-function, function-known, function-extended, rest-read}
-
--- data and command are bytes
-abbrev pub Bytes : Message → Type 0
-Bytes (unit house u) = Unit {0}
-Bytes (function house f) = Unit {0}
-Bytes (extended house u d c) = (d < 256) × (c < 256)
 
 places-append : (xs ys : List ℕ) → arePlaces xs ≡ true → arePlaces ys ≡ true → arePlaces (xs ++ ys) ≡ true
 places-append [] ys ex ey = ey
