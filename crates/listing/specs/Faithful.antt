@@ -18,15 +18,6 @@ countOf (noise offset count) = count
 countOf (frame offset count kind) = count
 countOf (end offset) = 0
 
-abbrev pub total : List Line → ℕ
-total [] = 0
-total (l ∷ ls) = countOf l + total ls
-
--- each line starts where the one before it stopped, the first at the given offset
-abbrev pub InOrder : ℕ → List Line → Type 0
-InOrder at [] = Unit {0}
-InOrder at (l ∷ ls) = (offsetOf l ≡ at) × InOrder (at + countOf l) ls
-
 -- what a line says of the capture: at no byte of a noise line starts an accepted frame, of any length; the bytes of a frame line are
 -- an accepted frame of that type; the end is the capture's
 abbrev pub Right : List ℕ → Line → Type 0
@@ -35,9 +26,10 @@ Right s (noise offset count) =
 Right s (frame offset count kind) = (f : Frame) × (readFrame (take count (drop offset s)) ≡ accepted f) × (f .kind ≡ kind)
 Right s (end offset) = offset ≡ length s
 
-abbrev pub AllRight : List ℕ → List Line → Type 0
-AllRight s [] = Unit {0}
-AllRight s (l ∷ ls) = Right s l × AllRight s ls
+-- from an offset on, each line starts where the one before it stopped and is right, and the last stops where the capture does
+abbrev pub Tells : List ℕ → ℕ → List Line → Type 0
+Tells s at [] = at ≡ length s
+Tells s at (l ∷ ls) = (offsetOf l ≡ at) × Right s l × Tells s (at + countOf l) ls
 
 -- joined noise is one run: no noise line follows another
 abbrev pub NotNoise : List Line → Type 0
@@ -52,8 +44,5 @@ Joined (noise offset count ∷ ls) = NotNoise ls × Joined ls
 Joined (frame offset count kind ∷ ls) = Joined ls
 Joined (end offset ∷ ls) = Joined ls
 
-pub record Faithful (s : List ℕ) (ls : List Line) : Type 0 where
-  pub adds-up : total ls ≡ length s
-  pub in-order : InOrder 0 ls
-  pub right : AllRight s ls
-  pub joined : Joined ls
+abbrev pub Faithful : List ℕ → List Line → Type 0
+Faithful s ls = Tells s 0 ls × Joined ls

@@ -12,7 +12,7 @@ use borrow.Author.Tests.{ltb-true, ltb-false}
 use Rattle.answer.specs.Answer.{accepted}
 use Rattle.link.specs.Frame.{Frame, readFrame}
 use Rattle.listing.specs.Lines.{Line, noise, frame, end, lines, linesFrom, frameAt, size, afterNoise}
-use Rattle.listing.specs.Faithful.{total, InOrder, Right, AllRight, NotNoise, Joined, Faithful}
+use Rattle.listing.specs.Faithful.{Tells, NotNoise, Joined, Faithful}
 use Rattle.listing.specs.Parts.{starts}
 use Rattle.listing.proofs.Laws.Frames.{starting, accepted-starts, only-one, is-start}
 use Rattle.listing.proofs.Laws.Pieces.{a-frame, noise-byte}
@@ -70,38 +70,6 @@ module _ (s : List ℕ) (P : ℕ → ℕ → List Line → Type 0)
   unfolding Here
   by-pieces = from (length s) 0 0 (omega arith) (omega arith)
 
--- the byte counts add up
-total-after : (offset run : ℕ) (ls : List Line) → total (afterNoise offset run ls) ≡ run + total ls
-unfolding afterNoise
-total-after offset zero ls = omega arith
-total-after offset (suc n) ls = refl
-
-pub adds-up : (s : List ℕ) → total (lines s) ≡ length s
-adds-up s =
-    let all : 0 + total (lines s) ≡ length s + 0 = by-pieces s (λ offset run ls. offset + total ls ≡ length s + run)
-    (λ run. omega (arith, total-after (length s) run (end (length s) ∷ [])))
-    (λ offset run ls e p. omega arith)
-    (λ offset run f ls e p. omega (arith, total-after offset run (frame offset (size f) (f .kind) ∷ ls))) in
-    omega arith
-
--- each line starts where the one before it stopped
-order-after : (offset run : ℕ) (ls : List Line) → run ≤ offset → InOrder offset ls → InOrder (offset - run) (afterNoise offset run ls)
-unfolding afterNoise
-order-after offset zero ls h p =
-    let e : offset ≡ offset - 0 = omega arith in
-    subst (λ (n : ℕ). InOrder n ls) e p
-order-after offset (suc n) ls h p =
-    let e : offset ≡ offset - suc n + suc n = omega arith in
-    (refl, subst (λ (k : ℕ). InOrder k ls) e p)
-
-pub in-order : (s : List ℕ) → InOrder 0 (lines s)
-in-order s =
-    by-pieces s (λ offset run ls. run ≤ offset → InOrder (offset - run) ls)
-    (λ run h. order-after (length s) run (end (length s) ∷ []) h (refl, tt))
-    (λ offset run ls e p h. let same : offset + 1 - (run + 1) ≡ offset - run = omega arith in subst (λ (n : ℕ). InOrder n ls) same (p (omega arith)))
-    (λ offset run f ls e p h. order-after offset run (frame offset (size f) (f .kind) ∷ ls) h (refl, subst (λ (n : ℕ). InOrder n ls) (sub-zero (offset + size f)) (p (omega arith))))
-    (omega arith)
-
 -- joined noise is one run
 joined-after : (offset run : ℕ) (ls : List Line) → NotNoise ls → Joined ls → Joined (afterNoise offset run ls)
 unfolding afterNoise
@@ -132,10 +100,16 @@ hush-more s offset run le q e i h = go (ltb i run) refl
         let last : offset + 1 - (run + 1) + i ≡ offset = omega (arith, ltb-false i run t) in
         ap (λ (n : ℕ). starts (drop n s)) last ∙ e
 
-right-after : (s : List ℕ) (offset run : ℕ) (ls : List Line) → Hush s offset run → AllRight s ls → AllRight s (afterNoise offset run ls)
+-- the lines after the noise, with the noise line before them
+tells-after : (s : List ℕ) (offset run : ℕ) (ls : List Line) → run ≤ offset → Hush s offset run → Tells s offset ls
+    → Tells s (offset - run) (afterNoise offset run ls)
 unfolding afterNoise Hush
-right-after s offset zero ls q p = p
-right-after s offset (suc n) ls q p = ((omega arith, hides-none), p)
+tells-after s offset zero ls le q p =
+    let e : offset ≡ offset - 0 = omega arith in
+    subst (λ (n : ℕ). Tells s n ls) e p
+tells-after s offset (suc n) ls le q p =
+    let e : offset ≡ offset - suc n + suc n = omega arith in
+    (refl, (omega arith, hides-none), subst (λ (k : ℕ). Tells s k ls) e p)
   where
     hides-none : (i m : ℕ) (f : Frame) → i < suc n → readFrame (take m (drop (offset - suc n + i) s)) ≡ accepted f → ⊥
     hides-none i m f h e =
@@ -143,13 +117,14 @@ right-after s offset (suc n) ls q p = ((omega arith, hides-none), p)
         let no-start = q i h in
         let z : _≡_ {A = ℕ} 0 1 = cc in omega arith
 
-pub right : (s : List ℕ) → AllRight s (lines s)
+pub tells : (s : List ℕ) → Tells s 0 (lines s)
 unfolding Hush frameAt
-right s =
-    by-pieces s (λ offset run ls. run ≤ offset → Hush s offset run → AllRight s ls)
-    (λ run h q. right-after s (length s) run (end (length s) ∷ []) q (refl, tt))
-    (λ offset run ls e p h q. p (omega arith) (hush-more s offset run h q e))
-    (λ offset run f ls e p h q. right-after s offset run (frame offset (size f) (f .kind) ∷ ls) q ((f, named s offset f e, refl), p (omega arith) (λ i i<0. absurd (nothing-below i i<0))))
+tells s =
+    by-pieces s (λ offset run ls. run ≤ offset → Hush s offset run → Tells s (offset - run) ls)
+    (λ run h q. let e : length s + 0 ≡ length s = omega arith in tells-after s (length s) run (end (length s) ∷ []) h q (refl, refl, e))
+    (λ offset run ls e p h q. let same : offset + 1 - (run + 1) ≡ offset - run = omega arith in subst (λ (n : ℕ). Tells s n ls) same (p (omega arith) (hush-more s offset run h q e)))
+    (λ offset run f ls e p h q. tells-after s offset run (frame offset (size f) (f .kind) ∷ ls) h q
+    (refl, (f, named s offset f e, refl), subst (λ (n : ℕ). Tells s n ls) (sub-zero (offset + size f)) (p (omega arith) (λ i i<0. absurd (nothing-below i i<0)))))
     (omega arith)
     (λ i i<0. absurd (nothing-below i i<0))
   where
@@ -161,4 +136,4 @@ right s =
 
 -- so the listing of any capture is faithful
 pub faithful : (s : List ℕ) → Faithful s (lines s)
-faithful s = record { adds-up = adds-up s; in-order = in-order s; right = right s; joined = joined s }
+faithful s = (tells s, joined s)
