@@ -1,6 +1,6 @@
 -- Reading places: one place more, and one pair more. Assumes nothing.
 use mathlib.Core.Path.{_≡_, refl, sym, ap, _∙_}
-use mathlib.Core.Bool.{Bool, true, false, not, _&&_}
+use mathlib.Core.Bool.{Bool, true, false, not, _&&_, and-true, and-assoc}
 use mathlib.Core.List.{List, _∷_}
 use Prim.Native.Nat.{ℕ, suc, _+_, _*_, _≤_, _<_}
 use native.Mathlib.Numerals.{add-one, add-two}
@@ -12,14 +12,6 @@ use lib.Seq.{slice, slice-empty, slice-cons}
 use borrow.Author.Tests.{lt-ltb, le-ltb, ltb-true, ltb-false, eq-eqb, ne-eqb}
 use Rattle.answer.specs.Answer.{Outcome, refused, accepted, onAccepted, refuseIf}
 use Rattle.x10.specs.Places.{arePlaces, unpaired, numberFrom, spelled}
-
-pub and-true : (a : Bool) → a && true ≡ a
-and-true true = refl
-and-true false = refl
-
-pub and-assoc : (a b c : Bool) → a && (b && c) ≡ a && b && c
-and-assoc true b c = refl
-and-assoc false b c = refl
 
 -- two numbers are below 2 where their bits together are
 pub or-below : (x y : ℕ) → ltb (bitOr x y) 2 ≡ ltb x 2 && ltb y 2
@@ -43,7 +35,7 @@ module _ (l : List ℕ) (i t : ℕ) where
       → ltb seen 2 && arePlaces (slice i t l) ≡ ltb (bitOr seen (getD l i 0)) 2 && arePlaces (slice (i + 1) t l)
   next-place seen h k =
       ap (λ (ps : List ℕ). ltb seen 2 && arePlaces ps) (one h k)
-      ∙ and-assoc (ltb seen 2) (ltb (getD l i 0) 2) (arePlaces (slice (i + 1) t l))
+      ∙ sym (and-assoc (ltb seen 2) (ltb (getD l i 0) 2) (arePlaces (slice (i + 1) t l)))
       ∙ ap (λ (b : Bool). b && arePlaces (slice (i + 1) t l)) (sym (or-below seen (getD l i 0)))
 
   two : i + 1 < t → t ≤ length l → slice i t l ≡ getD l i 0 ∷ getD l (i + 1) 0 ∷ slice (i + 2) t l

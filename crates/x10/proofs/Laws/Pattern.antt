@@ -1,6 +1,6 @@
 -- The readers' checks, each decided by a fact. Assumes nothing.
 use mathlib.Core.Path.{_≡_, refl, _∙_}
-use mathlib.Core.Bool.{true, false, _&&_}
+use mathlib.Core.Bool.{true, false, _&&_, and-true}
 use mathlib.Core.List.{List, [], _∷_}
 use Prim.Native.Nat.{ℕ, _+_, _≤_, _<_}
 use native.Mathlib.Omega.{arith}
@@ -12,7 +12,6 @@ use Rattle.answer.specs.Answer.{refused, accepted}
 use Rattle.x10.specs.declared.Function.{Function}
 use Rattle.x10.specs.Codes.{indexOf, extended1, functionOf}
 use Rattle.x10.specs.Places.{arePlaces, startCode, startsWith, spelled}
-use Rattle.x10.proofs.Laws.Pairs.{and-true}
 use Rattle.x10.specs.Pattern.{Message, unit, function, extended, ending, readRest, readFunction, readKey, read}
 
 -- the start code, place by place
