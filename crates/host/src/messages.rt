@@ -16,7 +16,7 @@ use message::message::MessageRead;
 ghost use mathlib.Core.Path.{_≡_};
 ghost use mathlib.Core.List.{[], _∷_};
 ghost use lib.ListN.{length};
-ghost use Rattle.answer.specs.Answer.{accepted, onAccepted, andThen, inRoom, outAfter};
+ghost use Rattle.answer.specs.Answer.{accepted, onAccepted, inRoom, outAfter};
 ghost use Rattle.answer.specs.Packed.{packed, byte, word};
 ghost use Rattle.message.specs.Command.{commandRead};
 ghost use Rattle.message.specs.Item.{zoneItem, eventItem, textItem, logItem, commandItem, zoneRead, wordRead, textRead};
@@ -229,7 +229,7 @@ pub extern "C" fn omnilink_message_write(kind: u8, data: &[u8], out: &mut [u8]) 
 // Condition (8), latched alarm (8), arming (8), unacknowledged trouble (8), loop reading (8) of zone i.
 #[no_mangle]
 pub extern "C" fn omnilink_zone(bytes: &[u8], i: usize) -> u64
-    ensures { λ n. ⌜ n ≡ packed (onAccepted zoneFields (andThen (readMessage (now (bytes .entry))) (zoneItem i))) ⌝ }
+    ensures { λ n. ⌜ n ≡ packed (onAccepted zoneFields (zoneItem i (now (bytes .entry)))) ⌝ }
 {
     pack_zone(message::item::zone(bytes, i))
 }
@@ -237,7 +237,7 @@ pub extern "C" fn omnilink_zone(bytes: &[u8], i: usize) -> u64
 // Event i (16).
 #[no_mangle]
 pub extern "C" fn omnilink_event(bytes: &[u8], i: usize) -> u64
-    ensures { λ n. ⌜ n ≡ packed (onAccepted wordFields (andThen (readMessage (now (bytes .entry))) (eventItem i))) ⌝ }
+    ensures { λ n. ⌜ n ≡ packed (onAccepted wordFields (eventItem i (now (bytes .entry)))) ⌝ }
 {
     pack_word(message::item::event(bytes, i))
 }
@@ -245,7 +245,7 @@ pub extern "C" fn omnilink_event(bytes: &[u8], i: usize) -> u64
 // Displayed (8), not acknowledged (8) of text message i.
 #[no_mangle]
 pub extern "C" fn omnilink_text_message(bytes: &[u8], i: usize) -> u64
-    ensures { λ n. ⌜ n ≡ packed (onAccepted textFields (andThen (readMessage (now (bytes .entry))) (textItem i))) ⌝ }
+    ensures { λ n. ⌜ n ≡ packed (onAccepted textFields (textItem i (now (bytes .entry)))) ⌝ }
 {
     pack_text(message::item::text_message(bytes, i))
 }
@@ -253,7 +253,7 @@ pub extern "C" fn omnilink_text_message(bytes: &[u8], i: usize) -> u64
 // Command (8), unit of duration (8), count of the duration, percent or value (8), P2 (16).
 #[no_mangle]
 pub extern "C" fn omnilink_command(bytes: &[u8]) -> u64
-    ensures { λ n. ⌜ n ≡ packed (onAccepted commandFields (andThen (readMessage (now (bytes .entry))) commandItem)) ⌝ }
+    ensures { λ n. ⌜ n ≡ packed (onAccepted commandFields (commandItem (now (bytes .entry)))) ⌝ }
 {
     pack_command(message::item::command(bytes))
 }
@@ -261,7 +261,7 @@ pub extern "C" fn omnilink_command(bytes: &[u8]) -> u64
 // The field (16) of a log entry, 0 to 8.
 #[no_mangle]
 pub extern "C" fn omnilink_log_entry(bytes: &[u8], field: usize) -> u64
-    ensures { λ n. ⌜ n ≡ packed (onAccepted wordFields (andThen (readMessage (now (bytes .entry))) (logItem field))) ⌝ }
+    ensures { λ n. ⌜ n ≡ packed (onAccepted wordFields (logItem field (now (bytes .entry)))) ⌝ }
 {
     pack_word(message::item::log_entry(bytes, field))
 }

@@ -13,8 +13,6 @@ ghost use Prim.Native.Nat.{_%_, _≤_};
 ghost use lib.Dec.{eqb};
 ghost use lib.ListN.{length, getD};
 ghost use Rattle.answer.specs.Answer.{accepted, refuseIf, onAccepted, inRoom, outAfter, writtenOf};
-ghost use Rattle.link.specs.Frame.{outcomeOf};
-ghost use Rattle.message.specs.Item.{messageHeader};
 ghost use Rattle.message.specs.Items.{zonesListed};
 ghost use Rattle.message.specs.Message.{plainListed, plainOf, digitsListed, orderListed, readPlain, readLogin, readZoneRequest, readZoneStatus, readEvents, readMessageStatus, logMessage, commandMessage, messageOf, readMessage, writeMessage, counted, messageRead};
 
@@ -318,21 +316,5 @@ pub fn write(kind: u8, data: &[u8], out: &mut [u8]) -> Written
     match of_data(kind, data) {
         MessageRead::Accepted(_) => link::frame::write(kind, data, out),
         MessageRead::Refused(r) => Written::Refused(r),
-    }
-}
-
-// The type and the count of data bytes of a whole message, for a reader of its items.
-pub(crate) fn kind_and_count(bytes: &[u8]) -> FrameRead
-    ensures { λ r. ⌜ outcomeOf r ≡ messageHeader (now (bytes .entry)) ⌝ }
-{
-    match link::frame::read(bytes) {
-        FrameRead::Accepted { kind, count } => match of_data(
-            kind,
-            link::frame::data(bytes, count),
-        ) {
-            MessageRead::Accepted(_) => FrameRead::Accepted { kind, count },
-            MessageRead::Refused(r) => FrameRead::Refused(r),
-        },
-        FrameRead::Refused(r) => FrameRead::Refused(r),
     }
 }

@@ -10,20 +10,19 @@ use Rattle.message.specs.Message.{Message, messageOf, readMessage, write
 use Rattle.message.specs.declared.message.Message.{Message as Counted}
 use Rattle.message.proofs.Laws.Checked.{was-accepted, was-refused}
 
-module _ (s : List ℕ) where
-  -- what is done of an accepted frame is done of its kind and its data part
-  pub framed : {A : Type 0} (k n : ℕ) (g : ℕ → List ℕ → Outcome A) → accepted (record { kind = k; count = n }) ≡ onAccepted header (readFrame s)
-      → andThen (readFrame s) (λ f. g (f .kind) (f .bytes)) ≡ g k (dataPart s n)
-  framed {A = A} k n g e =
-      let w = was-accepted header (readFrame s) (record { kind = k; count = n }) e in
+-- what is done of the frame that was read is done of its kind and its data part
+module _ (s : List ℕ) (o : Outcome Frame) (was-read : (f : Frame) → o ≡ accepted f → readFrame s ≡ accepted f) where
+  pub framed : {A : Type 0} (k n : ℕ) (g : ℕ → List ℕ → Outcome A) → accepted (record { kind = k; count = n }) ≡ onAccepted header o
+      → andThen o (λ f. g (f .kind) (f .bytes)) ≡ g k (dataPart s n)
+  framed k n g e =
+      let w = was-accepted header o (record { kind = k; count = n }) e in
       let f = w .0 in
-      ap (λ (o : Outcome Frame). andThen o (λ f. g (f .kind) (f .bytes))) (w .1)
-      ∙ ap (g (f .kind)) (sym (data-part s f (w .1)))
+      ap (λ (x : Outcome Frame). andThen x (λ f. g (f .kind) (f .bytes))) (w .1)
+      ∙ ap (g (f .kind)) (sym (data-part s f (was-read f (w .1))))
       ∙ ap (λ (h : Header). g (h .kind) (dataPart s (h .count))) (sym (w .2))
 
-  pub unframed : {A : Type 0} (m : ℕ) (g : ℕ → List ℕ → Outcome A) → refused m ≡ onAccepted header (readFrame s)
-      → andThen (readFrame s) (λ f. g (f .kind) (f .bytes)) ≡ refused m
-  unframed m g e = ap (λ (o : Outcome Frame). andThen o (λ f. g (f .kind) (f .bytes))) (was-refused header (readFrame s) m e)
+pub unframed : {A : Type 0} (o : Outcome Frame) (m : ℕ) (g : Frame → Outcome A) → refused m ≡ onAccepted header o → andThen o g ≡ refused m
+unframed o m g e = ap (λ (x : Outcome Frame). andThen x g) (was-refused header o m e)
 
 -- what a writer does behind the checks
 module _ (kind : ℕ) (d : List ℕ) (room : ℕ) where

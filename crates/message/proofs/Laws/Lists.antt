@@ -33,6 +33,16 @@ zones-end d i h = ap zonesListed (drop-of-length-le d h)
 
 -- ---- items
 
+pub item-past : {A : Type 0} (l : List A) (i : ℕ) → length l ≤ i → itemAt l i ≡ refused 8
+item-past [] i h = refl
+item-past (a ∷ l) zero h = let z : ⊥ = omega arith in absurd z
+item-past (a ∷ l) (suc i) h = item-past l i (omega arith)
+
+pub item-there : {A : Type 0} (l : List A) (i : ℕ) (x : A) → i < length l → itemAt l i ≡ accepted (getD l i x)
+item-there [] i x h = let z : ⊥ = omega arith in absurd z
+item-there (a ∷ l) zero x h = refl
+item-there (a ∷ l) (suc i) x h = item-there l i x (omega arith)
+
 module _ {A : Type 0} (make : ℕ → ℕ → A) where
   pub past-pairs : (d : List ℕ) (i : ℕ) → length d / 2 ≤ i → itemAt (pairs make d) i ≡ refused 8
   past-pairs [] i h = refl

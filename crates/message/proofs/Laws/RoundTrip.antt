@@ -28,7 +28,7 @@ use Rattle.message.specs.declared.items.TextMessage.{TextMessage}
 use Rattle.message.proofs.Laws.Decode.{command-kind, fixed-back, zones-back, events-back, texts-back}
 use Rattle.message.proofs.Laws.Checked.{passes}
 use Rattle.message.proofs.Laws.Lists.{texts-length}
-use Rattle.message.proofs.Laws.Item.{zones-of, events-of, texts-of, every-type, every-plain, every-login, every-request, every-zones, every-events, every-texts, every-log, every-command}
+use Rattle.message.proofs.Laws.Accepts.{zones-of, events-of, texts-of, every-type, every-plain, every-login, every-request, every-zones, every-events, every-texts, every-log, every-command}
 use Rattle.message.proofs.Laws.Encode.{none-of, leading, never, two-of, four-of, ten-of, which-plain, command-encoded, word-apart, events-encoded, zones-encoded, texts-encoded}
 
 -- a written type and data bytes are read as what they carry
