@@ -1,6 +1,6 @@
 -- A check by a test that the code worked out. Assumes nothing.
 use mathlib.Core.Path.{_≡_, refl, sym, ap, _∙_}
-use mathlib.Core.Bool.{Bool, true, false, not}
+use mathlib.Core.Bool.{Bool, true, false, not, cond, _&&_}
 use Prim.Native.Nat.{ℕ}
 use native.Mathlib.Omega.{arith}
 use Rattle.answer.specs.Answer.{Outcome, refused, accepted, refuseIf, onAccepted}
@@ -27,3 +27,12 @@ was-accepted f (accepted a) b e = (a, refl, cc)
 pub was-refused : {A B : Type 0} (f : A → B) (o : Outcome A) (n : ℕ) → refused n ≡ onAccepted f o → o ≡ refused n
 was-refused f (refused m) n e = cc
 was-refused f (accepted a) n e = let z : _≡_ {A = ℕ} 0 1 = cc in let no : ⊥ = omega arith in absurd no
+
+-- nothing follows from a test that fails and holds
+pub never : {G : Type 0} → _≡_ {A = Bool} false true → G
+never e = let z : _≡_ {A = ℕ} 0 1 = ap (λ t. cond t 1 0) e in let nothing : ⊥ = omega arith in absurd nothing
+
+-- where two tests hold together, each holds
+pub both : {a b : Bool} → (a && b) ≡ true → (a ≡ true) × (b ≡ true)
+both {a = true} e = (refl, e)
+both {a = false} e = never e

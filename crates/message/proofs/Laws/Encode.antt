@@ -13,14 +13,14 @@ use borrow.Author.Tests.{eq-eqb, ne-eqb, lt-ltb, le-ltb, eqb-true, eqb-false, lt
 use Rattle.message.specs.Command.{durationOf, durationListed, commandListed, commandOf}
 use Rattle.message.specs.Items.{conditionOf, latchedOf, armingOf, zoneOf, zoneListed, zonesListed, textOf, zones, words, texts}
 use Rattle.message.specs.Message.{plainListed}
-use Rattle.message.specs.Typed.{durationP1, commandFits, encodedCommand, encodedParameters, conditionBits, latchedBits, armingBits, flag, statusByte, zoneBytes, eventBytes, textBits, textBytes}
-use Rattle.message.specs.declared.typed.Encoded.{Encoded}
+use Rattle.message.specs.Typed.{durationP1, parameters, commandBytes, conditionBits, latchedBits, armingBits, flag, statusByte, zoneBytes, eventBytes, textBits, textBytes}
 use Rattle.message.specs.declared.items.Condition.{Condition}
 use Rattle.message.specs.declared.items.Condition.the-variants as Condition
 use Rattle.message.specs.declared.items.LatchedAlarm.{LatchedAlarm}
 use Rattle.message.specs.declared.items.LatchedAlarm.the-variants as LatchedAlarm
 use Rattle.message.specs.declared.items.Arming.{Arming}
 use Rattle.message.specs.declared.items.Arming.the-variants as Arming
+use Rattle.message.proofs.Laws.Checked.{never, both}
 use Rattle.message.proofs.Laws.Duration.{p1-after-duration}
 
 -- ---- lists of a known length, by their elements
@@ -75,65 +75,34 @@ branch : {G : Type 0} (t a b : Bool) → (t ≡ true → a ≡ true → G) → (
 branch true a b then′ other h = then′ refl h
 branch false a b then′ other h = other h
 
-pub never : {G : Type 0} → _≡_ {A = Bool} false true → G
-never e = let z : _≡_ {A = ℕ} 0 1 = ap (λ t. cond t 1 0) e in let nothing : ⊥ = omega arith in absurd nothing
-
 module _ (p1 p2 : ℕ) where
   abbrev Same : ℕ → Type 0
-  Same number = (commandFits (commandOf number p1 p2) ≡ true) × (encodedCommand (commandOf number p1 p2) ≡ encodedParameters number p1 p2)
+  Same number = commandBytes (commandOf number p1 p2) ≡ parameters number p1 p2
 
-  timed : durationListed p1 ≡ true → (commandFits (commandOf 0 p1 p2) ≡ true) × (encodedCommand (commandOf 0 p1 p2) ≡ encodedParameters 0 p1 p2)
+  -- a command that carries a duration
+  timed : (number : ℕ) → number < 2 → durationListed p1 ≡ true → Same number
   unfolding commandOf
-  timed h = let d = p1-after-duration p1 h in (d .0, ap (λ (p : ℕ). encodedParameters 0 p p2) (d .1))
+  timed zero h l = ap (λ (p : ℕ). parameters 0 p p2) (p1-after-duration p1 l)
+  timed (suc zero) h l = ap (λ (p : ℕ). parameters 1 p p2) (p1-after-duration p1 l)
+  timed (suc (suc n)) h l = let z : ⊥ = omega arith in absurd z
 
-  timed-on : durationListed p1 ≡ true → (commandFits (commandOf 1 p1 p2) ≡ true) × (encodedCommand (commandOf 1 p1 p2) ≡ encodedParameters 1 p1 p2)
-  unfolding commandOf
-  timed-on h = let d = p1-after-duration p1 h in (d .0, ap (λ (p : ℕ). encodedParameters 1 p p2) (d .1))
-
-  plain-2 : eqb p1 0 ≡ true → Same 2
-  unfolding commandOf
-  plain-2 h = (refl, ap (λ (p : ℕ). encodedParameters 2 p p2) (sym (eqb-true p1 0 h)))
-
-  plain-3 : eqb p1 0 ≡ true → Same 3
-  unfolding commandOf
-  plain-3 h = (refl, ap (λ (p : ℕ). encodedParameters 3 p p2) (sym (eqb-true p1 0 h)))
-
-  plain-10 : eqb p1 0 ≡ true → Same 10
-  unfolding commandOf
-  plain-10 h = (refl, ap (λ (p : ℕ). encodedParameters 10 p p2) (sym (eqb-true p1 0 h)))
-
-  plain-11 : eqb p1 0 ≡ true → Same 11
-  unfolding commandOf
-  plain-11 h = (refl, ap (λ (p : ℕ). encodedParameters 11 p p2) (sym (eqb-true p1 0 h)))
-
-  valued-9 : Same 9
-  unfolding commandOf
-  valued-9 = (refl, refl)
-
-  valued-12 : Same 12
-  unfolding commandOf
-  valued-12 = (refl, refl)
-
-  below-two : (number : ℕ) → number < 2 → durationListed p1 ≡ true → Same number
-  below-two zero h l = timed l
-  below-two (suc zero) h l = timed-on l
-  below-two (suc (suc n)) h l = let z : ⊥ = omega arith in absurd z
+  -- a command of P1 0
+  blank : (number : ℕ) → commandBytes (commandOf number 0 p2) ≡ parameters number 0 p2 → eqb p1 0 ≡ true → Same number
+  blank number h e = subst (λ (p : ℕ). commandBytes (commandOf number p p2) ≡ parameters number p p2) (sym (eqb-true p1 0 e)) h
 
   at : (number k : ℕ) → eqb number k ≡ true → Same k → Same number
   at number k e h = subst Same (sym (eqb-true number k e)) h
 
-  pub command-encoded : (number : ℕ) → commandListed number p1 p2 ≡ true
-      → (commandFits (commandOf number p1 p2) ≡ true) × (encodedCommand (commandOf number p1 p2) ≡ encodedParameters number p1 p2)
-  unfolding commandListed
+  pub command-encoded : (number : ℕ) → commandListed number p1 p2 ≡ true → commandBytes (commandOf number p1 p2) ≡ parameters number p1 p2
+  unfolding commandListed commandOf
   command-encoded number listed =
-      branch (eqb number 2) _ _ (λ e h. at number 2 e (plain-2 h))
-      (branch (eqb number 3) _ _ (λ e h. at number 3 e (plain-3 h))
-      (branch (eqb p2 0) _ _ (λ e h. never h)
-      (branch (ltb number 2) _ _ (λ e h. below-two number (ltb-true number 2 e) h)
-      (branch (eqb number 9) _ _ (λ e h. at number 9 e valued-9)
-      (branch (eqb number 10) _ _ (λ e h. at number 10 e (plain-10 h))
-      (branch (eqb number 11) _ _ (λ e h. at number 11 e (plain-11 h))
-      (λ e. at number 12 e valued-12))))))) listed
+      branch (eqb number 2) _ _ (λ e h. at number 2 e (blank 2 refl h))
+      (branch (eqb number 3) _ _ (λ e h. at number 3 e (blank 3 refl h))
+      (λ l. branch (ltb number 2) _ _ (λ e h. timed number (ltb-true number 2 e) h)
+      (branch (eqb number 9) _ _ (λ e h. at number 9 e refl)
+      (branch (eqb number 10) _ _ (λ e h. at number 10 e (blank 10 refl h))
+      (branch (eqb number 11) _ _ (λ e h. at number 11 e (blank 11 refl h))
+      (λ e. at number 12 e refl)))) (both {a = leb 1 p2} l .1))) listed
 
 -- ---- a word in two bytes
 
