@@ -20,13 +20,13 @@ ghost use Rattle.answer.specs.Answer.{accepted, onAccepted, inRoom, outAfter};
 ghost use Rattle.answer.specs.Packed.{packed, byte, word};
 ghost use Rattle.message.specs.Command.{commandRead};
 ghost use Rattle.message.specs.Item.{zoneItem, eventItem, textItem, logItem, commandItem, zoneRead, wordRead, textRead};
-ghost use Rattle.message.specs.Message.{readMessage, writeMessage, messageRead};
-ghost use Rattle.message.specs.Typed.{conditionBits, latchedBits, armingBits, flag};
-ghost use Rattle.host.specs.Messages.{fixedKind, messageFields, countedFields, zoneFields, wordFields, textFields, durationUnit, durationCount, commandFields};
+ghost use Rattle.message.specs.Message.{counted, readMessage, writeMessage, messageRead};
+ghost use Rattle.message.specs.Typed.{fixedFrame, conditionBits, latchedBits, armingBits, flag};
+ghost use Rattle.host.specs.Messages.{messageFields, zoneFields, wordFields, textFields, durationUnit, durationCount, commandFields};
 
 // The type of a message of fixed length.
 fn fixed_kind(f: Fixed) -> u8
-    ensures { λ n. ⌜ n ≡ fixedKind f ⌝ }
+    ensures { λ n. ⌜ n ≡ fixedFrame f .kind ⌝ }
 {
     match f {
         Fixed::Acknowledge => 0x05,
@@ -49,7 +49,7 @@ fn fixed_kind(f: Fixed) -> u8
 }
 
 fn packed_message(m: Message) -> u64
-    ensures { λ n. ⌜ n ≡ packed (accepted (countedFields m)) ⌝ }
+    ensures { λ n. ⌜ n ≡ packed (accepted (messageFields m)) ⌝ }
 {
     match m {
         Message::Fixed(f) => answer::pack_2_bytes(fixed_kind(f), 0),
@@ -60,7 +60,7 @@ fn packed_message(m: Message) -> u64
 }
 
 fn pack_message(r: MessageRead) -> u64
-    ensures { λ n. ⌜ n ≡ packed (onAccepted countedFields (messageRead r)) ⌝ }
+    ensures { λ n. ⌜ n ≡ packed (onAccepted messageFields (messageRead r)) ⌝ }
 {
     match r {
         MessageRead::Accepted(m) => packed_message(m),
@@ -212,7 +212,7 @@ fn pack_command(r: CommandRead) -> u64
 // Type (8), count of items (8).
 #[no_mangle]
 pub extern "C" fn omnilink_message_read(bytes: &[u8]) -> u64
-    ensures { λ n. ⌜ n ≡ packed (onAccepted messageFields (readMessage (now (bytes .entry)))) ⌝ }
+    ensures { λ n. ⌜ n ≡ packed (onAccepted (λ m. messageFields (counted m)) (readMessage (now (bytes .entry)))) ⌝ }
 {
     pack_message(message::message::read(bytes))
 }
