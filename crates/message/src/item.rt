@@ -14,7 +14,8 @@ ghost use lib.ListN.{drop};
 ghost use Rattle.answer.specs.Answer.{onAccepted};
 ghost use Rattle.link.specs.Frame.{header, outcomeOf};
 ghost use Rattle.message.specs.Command.{commandRead};
-ghost use Rattle.message.specs.Items.{zones, words, texts, twoBits};
+ghost use Rattle.message.specs.Items.{zones, words, texts};
+ghost use Rattle.message.specs.Parts.{twoBits};
 ghost use Rattle.message.specs.Item.{frameOf, itemAt, zoneItem, eventItem, textItem, logFields, logField, logItem, commandItem, zoneRead, wordRead, textRead};
 
 pub enum ZoneRead {

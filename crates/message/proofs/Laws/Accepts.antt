@@ -9,7 +9,7 @@ use borrow.Author.Tests.{eqb-true, not-false}
 use Rattle.answer.specs.Answer.{Outcome, refused, accepted, refuseIf, onAccepted}
 use Rattle.answer.proofs.Laws.Test.{passed, not-accepted}
 use Rattle.message.specs.Items.{zones, zonesListed, words, texts}
-use Rattle.message.specs.Message.{Message, fixed, zoneStatus, events, messageStatus, plainListed, plainOf, digitsListed, orderListed, statusLength, readPlain, readLogin, readZoneRequest, readZoneStatus, readEvents, readMessageStatus, logMessage, commandMessage, messageOf}
+use Rattle.message.specs.Message.{Message, fixed, zoneStatus, events, messageStatus, plainListed, plainOf, digitsListed, orderListed, statusLength, readPlain, readLogin, readZoneRequest, readZoneStatus, readEvents, readMessageStatus, messageOf}
 use Rattle.message.specs.Command.{readCommand}
 use Rattle.message.specs.Log.{readLog}
 use Rattle.message.specs.declared.message.Fixed.the-variants as F
@@ -63,7 +63,8 @@ module _ (P : Message → Type 0) where
   -- type by type
   pub every-type : (kind : ℕ) (d : List ℕ) → (plainListed kind ≡ true → Every (readPlain kind d)) → (kind ≡ 0x20 → Every (readLogin d))
       → (kind ≡ 0x15 → Every (readZoneRequest d)) → (kind ≡ 0x16 → Every (readZoneStatus d)) → (kind ≡ 0x23 → Every (readEvents d))
-      → (kind ≡ 0x25 → Every (readMessageStatus d)) → (kind ≡ 0x0E → Every (logMessage d)) → (kind ≡ 0x0F → Every (commandMessage d))
+      → (kind ≡ 0x25 → Every (readMessageStatus d)) → (kind ≡ 0x0E → Every (onAccepted (λ e. fixed (F.LogEntry e)) (readLog d)))
+      → (kind ≡ 0x0F → Every (onAccepted (λ c. fixed (F.Command c)) (readCommand d)))
       → Every (messageOf kind d)
   unfolding messageOf
   every-type kind d plain login request zone event text log command =
@@ -122,10 +123,8 @@ module _ (P : Message → Type 0) where
       every-check P (not (eqb (getD d 0 0) 0)) 8 _ (λ z.
       every-value P _ (h (not-false (statusLength (length d)) l) (eqb-true (getD d 0 0) 0 (not-false (eqb (getD d 0 0) 0) z)))))
 
-  pub every-log : (d : List ℕ) → ((e : LogEntry) → readLog d ≡ accepted e → P (fixed (F.LogEntry e))) → Every P (logMessage d)
-  unfolding logMessage
+  pub every-log : (d : List ℕ) → ((e : LogEntry) → readLog d ≡ accepted e → P (fixed (F.LogEntry e))) → Every P (onAccepted (λ e. fixed (F.LogEntry e)) (readLog d))
   every-log d h = every-mapped P (λ e. fixed (F.LogEntry e)) (readLog d) h
 
-  pub every-command : (d : List ℕ) → ((c : Command) → readCommand d ≡ accepted c → P (fixed (F.Command c))) → Every P (commandMessage d)
-  unfolding commandMessage
+  pub every-command : (d : List ℕ) → ((c : Command) → readCommand d ≡ accepted c → P (fixed (F.Command c))) → Every P (onAccepted (λ c. fixed (F.Command c)) (readCommand d))
   every-command d h = every-mapped P (λ c. fixed (F.Command c)) (readCommand d) h

@@ -1,6 +1,6 @@
 -- What is decoded is encoded to itself: each message that data bytes carry is written as those bytes. Assumes nothing.
 use mathlib.Core.Path.{_≡_, refl, sym, ap, ap₂, subst, _∙_}
-use mathlib.Core.Bool.{Bool, true, false, not, cond}
+use mathlib.Core.Bool.{Bool, true, false, not, cond, _&&_, _||_}
 use mathlib.Core.List.{List, [], _∷_}
 use Prim.Native.Nat.{ℕ, zero, suc, _+_, _*_, _/_, _%_, _<_, _≤_}
 use native.Mathlib.Decide.{ℕ-discrete, decLt}
@@ -9,7 +9,7 @@ use lib.Dec.{T, eqb, ltb, leb, ltb→lt}
 use lib.Ieee.Fits.{and-l, and-r}
 use lib.ListN.{length, getD, drop}
 use lib.Pow.{areBytes}
-use borrow.Author.Tests.{eq-eqb, ne-eqb, lt-ltb, le-ltb, eqb-true, eqb-false, ltb-true, leb-true}
+use borrow.Author.Tests.{eq-eqb, ne-eqb, lt-ltb, le-ltb, eqb-true, eqb-false, ltb-true, not-true}
 use Rattle.message.specs.Command.{durationOf, durationListed, commandListed, commandOf}
 use Rattle.message.specs.Items.{conditionOf, latchedOf, armingOf, zoneOf, zoneListed, zonesListed, textOf, zones, words, texts}
 use Rattle.message.specs.Message.{plainListed}
@@ -59,14 +59,14 @@ ten-of (a ∷ b ∷ c ∷ f ∷ g ∷ h ∷ d) e = ap {B = List ℕ} (λ t. a �
 pub which-plain : (P : ℕ → Type 0) → P 0x05 → P 0x06 → P 0x0D → P 0x11 → P 0x13 → P 0x21 → P 0x22 → (kind : ℕ) → plainListed kind ≡ true → P kind
 unfolding plainListed
 which-plain P a b c d e f g kind h =
-    pick 0x05 a _ (λ h. pick 0x06 b _ (λ h. pick 0x0D c _ (λ h. pick 0x11 d _ (λ h. pick 0x13 e _ (λ h. pick 0x21 f _ (λ h. subst P (sym (eqb-true kind 0x22 h)) g) h) h) h) h) h) h
+    either _ _ (either _ _ (either _ _ (either _ _ (either _ _ (either _ _ (at 0x05 a) (at 0x06 b)) (at 0x0D c)) (at 0x11 d)) (at 0x13 e)) (at 0x21 f)) (at 0x22 g) h
   where
-    pick : (k : ℕ) → P k → (later : Bool) → (later ≡ true → P kind) → cond (eqb kind k) true later ≡ true → P kind
-    pick k p later go h = by (eqb kind k) refl h
-      where
-        by : (t : Bool) → eqb kind k ≡ t → cond t true later ≡ true → P kind
-        by true q x = subst P (sym (eqb-true kind k q)) p
-        by false q x = go x
+    at : (k : ℕ) → P k → eqb kind k ≡ true → P kind
+    at k p q = subst P (sym (eqb-true kind k q)) p
+
+    either : (s t : Bool) → (s ≡ true → P kind) → (t ≡ true → P kind) → (s || t) ≡ true → P kind
+    either true t l r q = l refl
+    either false t l r q = r q
 
 -- ---- commands
 
@@ -156,33 +156,21 @@ status-sum s c l a t h hc hl ha ht =
     let order : c + 4 * l + 16 * a + 64 * t ≡ 64 * t + 16 * a + 4 * l + c = omega arith in
     order ∙ four-sum s t a l c (omega arith) (ht ∙ top) ha hl hc
 
--- what a listed status byte is
-zone-facts : (s : ℕ) → zoneListed s ≡ true → (s % 4 ≡ 3 → ⊥) × (s / 4 % 4 ≡ 3 → ⊥) × (s < 128)
-zone-facts s e = first (eqb (s % 4) 3) refl e
-  where
-    second : (s % 4 ≡ 3 → ⊥) → (t : Bool) → eqb (s / 4 % 4) 3 ≡ t → cond t false (ltb s 128) ≡ true → (s % 4 ≡ 3 → ⊥) × (s / 4 % 4 ≡ 3 → ⊥) × (s < 128)
-    second a true q h = never h
-    second a false q h = (a, eqb-false (s / 4 % 4) 3 q, ltb-true s 128 h)
-
-    first : (t : Bool) → eqb (s % 4) 3 ≡ t → cond t false (cond (eqb (s / 4 % 4) 3) false (ltb s 128)) ≡ true → (s % 4 ≡ 3 → ⊥) × (s / 4 % 4 ≡ 3 → ⊥) × (s < 128)
-    first true q h = never h
-    first false q h = second (eqb-false (s % 4) 3 q) (eqb (s / 4 % 4) 3) refl h
-
 status-back : (s r : ℕ) → zoneListed s ≡ true → statusByte (zoneOf s r) ≡ s
 status-back s r e =
-    let f = zone-facts s e in
-    let a : s % 4 < 3 = omega (arith, f .0) in
-    let b : s / 4 % 4 < 3 = omega (arith, f .1) in
-    status-sum s _ _ _ _ (f .2) (condition-value (s % 4) a) (latched-value (s / 4 % 4) b) (arming-value (s / 16 % 4) (omega arith)) (flag-value (s / 64 % 2) (omega arith))
+    let fields = both {a = not (eqb (s % 4) 3) && not (eqb (s / 4 % 4) 3)} e in
+    let a = eqb-false (s % 4) 3 (not-true (eqb (s % 4) 3) (both (fields .0) .0)) in
+    let b = eqb-false (s / 4 % 4) 3 (not-true (eqb (s / 4 % 4) 3) (both {a = not (eqb (s % 4) 3)} (fields .0) .1)) in
+    status-sum s _ _ _ _ (ltb-true s 128 (fields .1)) (condition-value (s % 4) (omega (arith, a))) (latched-value (s / 4 % 4) (omega (arith, b)))
+    (arming-value (s / 16 % 4) (omega arith)) (flag-value (s / 64 % 2) (omega arith))
 
 pub zones-encoded : (d : List ℕ) → length d % 2 ≡ 0 → zonesListed d ≡ true → zoneBytes (zones d) ≡ d
 zones-encoded [] e l = refl
 zones-encoded (a ∷ []) e l = let z : ⊥ = omega arith in absurd z
-zones-encoded (a ∷ b ∷ d) e l = by (zoneListed a) refl l (λ h. zones-encoded d (omega arith) h)
-  where
-    by : (t : Bool) → zoneListed a ≡ t → cond t (zonesListed d) false ≡ true → (zonesListed d ≡ true → zoneBytes (zones d) ≡ d) → zoneBytes (zones (a ∷ b ∷ d)) ≡ a ∷ b ∷ d
-    by true q h ih = let tail : zoneBytes (zones d) ≡ d = ih h in let head : statusByte (zoneOf a b) ≡ a = status-back a b q in λ i. head i ∷ b ∷ tail i
-    by false q h ih = never h
+zones-encoded (a ∷ b ∷ d) e l =
+    let head : statusByte (zoneOf a b) ≡ a = status-back a b (both {a = zoneListed a} l .0) in
+    let tail : zoneBytes (zones d) ≡ d = zones-encoded d (omega arith) (both {a = zoneListed a} l .1) in
+    λ i. head i ∷ b ∷ tail i
 
 text-value : (v : ℕ) → v < 4 → textBits (textOf v) ≡ v
 text-value zero h = refl
