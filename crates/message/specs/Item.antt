@@ -9,7 +9,7 @@ use Rattle.link.specs.Frame.{Frame, readFrame}
 use Rattle.message.specs.Command.{readCommand}
 use Rattle.message.specs.Items.{zones, words, texts}
 use Rattle.message.specs.Log.{readLog}
-use Rattle.message.specs.Message.{messageOf}
+use Rattle.message.specs.Message.{readMessage}
 use Rattle.message.specs.declared.command.Command.{Command}
 use Rattle.message.specs.declared.log.LogEntry.{LogEntry}
 use Rattle.message.specs.declared.items.Zone.{Zone}
@@ -21,12 +21,11 @@ use Rattle.message.specs.declared.item.WordRead.the-variants as W
 use Rattle.message.specs.declared.item.TextRead.{TextRead}
 use Rattle.message.specs.declared.item.TextRead.the-variants as T
 
--- the frame of a whole message of a type: the frame reader's answers, then 6, 7, 8 of the message, then 6 for another type
+-- the frame of a whole message of a type: the message reader's refusals, then 6 for another type
 unfoldable pub frameOf : ℕ → List ℕ → Outcome Frame
 frameOf kind s =
-    andThen (readFrame s) (λ f.
-    andThen (messageOf (f .kind) (f .bytes)) (λ m.
-    refuseIf (not (eqb (f .kind) kind)) 6 (accepted f)))
+    andThen (readMessage s) (λ m.
+    andThen (readFrame s) (λ f. refuseIf (not (eqb (f .kind) kind)) 6 (accepted f)))
 
 -- an item of a whole message of a type, as it is found in the data bytes
 unfoldable pub itemOf : {A : Type 0} → ℕ → (List ℕ → Outcome A) → List ℕ → Outcome A
@@ -55,13 +54,9 @@ abbrev pub logFields : LogEntry → List ℕ
 logFields e =
     e .number ∷ e .«time_valid» ∷ e .month ∷ e .day ∷ e .hour ∷ e .minute ∷ e .«event_type» ∷ e .«parameter_1» ∷ e .«parameter_2» ∷ []
 
--- field i of the log entry that data bytes carry
-abbrev pub logField : ℕ → List ℕ → Outcome ℕ
-logField i d = andThen (readLog d) (λ e. itemAt (logFields e) i)
-
 -- field i of a log entry
 abbrev pub logItem : ℕ → List ℕ → Outcome ℕ
-logItem i = itemOf 0x0E (logField i)
+logItem i = itemOf 0x0E (λ d. andThen (readLog d) (λ e. itemAt (logFields e) i))
 
 -- the command of a command message
 abbrev pub commandItem : List ℕ → Outcome Command

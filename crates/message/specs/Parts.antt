@@ -1,10 +1,16 @@
 -- What the functions behind the reader and the writers promise one another.
 use Prim.Native.Nat.{ℕ, _-_, _/_, _%_}
-use mathlib.Core.Bool.{cond}
+use mathlib.Core.Bool.{cond, not}
 use mathlib.Core.List.{List, _++_}
 use lib.Dec.{eqb}
 use lib.ListN.{length, replicate}
+use Rattle.answer.specs.Answer.{Outcome, accepted, refuseIf}
+use Rattle.link.specs.Frame.{Header}
 use Rattle.message.specs.declared.typed.Encoded.{Encoded}
+
+-- a header of a type; another type is 6
+abbrev pub headerOf : ℕ → ℕ → ℕ → Outcome Header
+headerOf wanted kind count = refuseIf (not (eqb kind wanted)) 6 (accepted (record { kind = kind; count = count }))
 
 -- a type and up to ten data bytes, the rest of the array 0
 abbrev pub encoded : ℕ → List ℕ → Encoded

@@ -11,12 +11,13 @@ use answer::Refusal;
 use link::frame::FrameRead;
 ghost use mathlib.Core.Path.{_≡_};
 ghost use lib.ListN.{drop};
-ghost use Rattle.answer.specs.Answer.{onAccepted};
+ghost use Rattle.answer.specs.Answer.{andThen, onAccepted};
 ghost use Rattle.link.specs.Frame.{header, outcomeOf};
 ghost use Rattle.message.specs.Command.{commandRead};
 ghost use Rattle.message.specs.Items.{zones, words, texts};
-ghost use Rattle.message.specs.Parts.{twoBits};
-ghost use Rattle.message.specs.Item.{frameOf, itemAt, zoneItem, eventItem, textItem, logFields, logField, logItem, commandItem, zoneRead, wordRead, textRead};
+ghost use Rattle.message.specs.Log.{readLog};
+ghost use Rattle.message.specs.Parts.{headerOf, twoBits};
+ghost use Rattle.message.specs.Item.{frameOf, itemAt, zoneItem, eventItem, textItem, logFields, logItem, commandItem, zoneRead, wordRead, textRead};
 
 pub enum ZoneRead {
     Accepted(Zone),
@@ -106,7 +107,7 @@ fn log_field(e: LogEntry, i: usize) -> WordRead
 
 // Field i of the log entry that data bytes carry.
 fn log_field_at(data: &[u8], i: usize) -> WordRead
-    ensures { λ r. ⌜ wordRead r ≡ logField i (now («data» .entry)) ⌝ }
+    ensures { λ r. ⌜ wordRead r ≡ andThen (readLog (now («data» .entry))) (λ e. itemAt (logFields e) i) ⌝ }
 {
     match crate::log::read(data) {
         LogRead::Accepted(e) => log_field(e, i),
@@ -114,7 +115,17 @@ fn log_field_at(data: &[u8], i: usize) -> WordRead
     }
 }
 
-// The header of a whole message of a type; another type is 6.
+// A header of the type that is asked for; another type is 6.
+fn of_kind(wanted: u8, kind: u8, count: u8) -> FrameRead
+    ensures { λ r. ⌜ outcomeOf r ≡ headerOf wanted kind count ⌝ }
+{
+    if kind != wanted {
+        return FrameRead::Refused(Refusal::Unknown);
+    }
+    FrameRead::Accepted { kind, count }
+}
+
+// The header of a whole message of a type.
 fn header_of(bytes: &[u8], wanted: u8) -> FrameRead
     ensures { λ r. ⌜ outcomeOf r ≡ onAccepted header (frameOf wanted (now (bytes .entry))) ⌝ }
 {
@@ -123,19 +134,10 @@ fn header_of(bytes: &[u8], wanted: u8) -> FrameRead
             kind,
             link::frame::data(bytes, count),
         ) {
-            MessageRead::Accepted(_) => {
-                if kind != wanted {
-                    return FrameRead::Refused(Refusal::Unknown);
-                }
-                return FrameRead::Accepted { kind, count };
-            }
-            MessageRead::Refused(r) => {
-                return FrameRead::Refused(r);
-            }
+            MessageRead::Accepted(_) => of_kind(wanted, kind, count),
+            MessageRead::Refused(r) => FrameRead::Refused(r),
         },
-        FrameRead::Refused(r) => {
-            return FrameRead::Refused(r);
-        }
+        FrameRead::Refused(r) => FrameRead::Refused(r),
     }
 }
 

@@ -7,7 +7,7 @@ use lib.Dec.{eqb, ltb}
 use lib.ListN.{length, getD, drop}
 use borrow.Author.Tests.{eqb-true, not-false}
 use Rattle.answer.specs.Answer.{Outcome, refused, accepted, refuseIf, onAccepted}
-use Rattle.answer.proofs.Laws.Test.{passed, not-accepted}
+use Rattle.answer.proofs.Laws.Test.{not-accepted}
 use Rattle.message.specs.Items.{zones, zonesListed, words, texts}
 use Rattle.message.specs.Message.{Message, fixed, zoneStatus, events, messageStatus, plainListed, plainOf, digitsListed, orderListed, statusLength, readPlain, readLogin, readZoneRequest, readZoneStatus, readEvents, readMessageStatus, messageOf}
 use Rattle.message.specs.Command.{readCommand}
@@ -15,30 +15,6 @@ use Rattle.message.specs.Log.{readLog}
 use Rattle.message.specs.declared.message.Fixed.the-variants as F
 use Rattle.message.specs.declared.log.LogEntry.{LogEntry}
 use Rattle.message.specs.declared.command.Command.{Command}
-
--- what the readers of the three lists accept
-pub zones-of : (d : List ℕ) (m : Message) → readZoneStatus d ≡ accepted m → m ≡ zoneStatus (zones d)
-unfolding readZoneStatus
-zones-of d m e =
-    let a = passed (not (eqb (length d % 2) 0)) 7 _ m e in
-    let b = passed (eqb (length d) 0) 7 _ m (a .1) in
-    let c = passed (ltb 64 (length d)) 7 _ m (b .1) in
-    let z = passed (not (zonesListed d)) 8 _ m (c .1) in
-    cc (z .1)
-
-pub events-of : (d : List ℕ) (m : Message) → readEvents d ≡ accepted m → m ≡ events (words d)
-unfolding readEvents
-events-of d m e =
-    let a = passed (not (eqb (length d % 2) 0)) 7 _ m e in
-    let b = passed (ltb 64 (length d)) 7 _ m (a .1) in
-    cc (b .1)
-
-pub texts-of : (d : List ℕ) (m : Message) → readMessageStatus d ≡ accepted m → m ≡ messageStatus (texts (drop 1 d))
-unfolding readMessageStatus
-texts-of d m e =
-    let a = passed (not (statusLength (length d))) 7 _ m e in
-    let b = passed (not (eqb (getD d 0 0) 0)) 8 _ m (a .1) in
-    cc (b .1)
 
 -- what holds of whatever a reader accepts
 module _ (P : Message → Type 0) where

@@ -1,8 +1,12 @@
 -- A check by a test that the code worked out. Assumes nothing.
 use mathlib.Core.Path.{_≡_, refl, sym, ap, _∙_}
 use mathlib.Core.Bool.{Bool, true, false, not, cond, _&&_}
+use mathlib.Core.List.{List}
 use Prim.Native.Nat.{ℕ}
 use native.Mathlib.Omega.{arith}
+use lib.Dec.{eqb}
+use lib.ListN.{length}
+use borrow.Author.Tests.{eq-eqb}
 use Rattle.answer.specs.Answer.{Outcome, refused, accepted, refuseIf, onAccepted}
 
 module _ {A : Type 0} (n : ℕ) (later : Outcome A) {t listed : Bool} (is : t ≡ listed) where
@@ -11,6 +15,17 @@ module _ {A : Type 0} (n : ℕ) (later : Outcome A) {t listed : Bool} (is : t �
 
   pub passes : t ≡ true → later ≡ refuseIf (not listed) n later
   passes e = ap (λ (b : Bool). refuseIf (not b) n later) (sym e ∙ is)
+
+-- a reader of so many data bytes whose fields are tested
+module _ {A B : Type 0} (f : A → B) (d : List ℕ) (size : ℕ) (a : A) (right : length d ≡ size) {t listed : Bool} (is : t ≡ listed) where
+  behind-size : refuseIf (not listed) 8 (accepted a) ≡ refuseIf (not (eqb (length d) size)) 7 (refuseIf (not listed) 8 (accepted a))
+  behind-size = passes 7 (refuseIf (not listed) 8 (accepted a)) refl (eq-eqb (length d) size right)
+
+  pub fields-refused : t ≡ false → refused 8 ≡ onAccepted f (refuseIf (not (eqb (length d) size)) 7 (refuseIf (not listed) 8 (accepted a)))
+  fields-refused e = ap (onAccepted f) (refuses 8 (accepted a) is e ∙ behind-size)
+
+  pub fields-taken : t ≡ true → accepted (f a) ≡ onAccepted f (refuseIf (not (eqb (length d) size)) 7 (refuseIf (not listed) 8 (accepted a)))
+  fields-taken e = ap (onAccepted f) (passes 8 (accepted a) is e ∙ behind-size)
 
 -- what is done of what is accepted may be done behind the check
 pub behind-check : {A B : Type 0} (f : A → B) (t : Bool) (n : ℕ) (later : Outcome A)

@@ -6,6 +6,7 @@ use lib.ListN.{length}
 use Rattle.answer.specs.Answer.{Outcome, refused, accepted, andThen, onAccepted, inRoom, outAfter}
 use Rattle.link.specs.Frame.{Frame, Header, header, readFrame, writeFrame, dataPart}
 use Rattle.link.proofs.Laws.Whole.{data-part}
+use Rattle.message.specs.Typed.{writeCounted}
 use Rattle.message.specs.Message.{Message, messageOf, readMessage, writeMessage, counted}
 use Rattle.message.specs.declared.message.Message.{Message as Counted}
 use Rattle.message.proofs.Laws.Checked.{was-accepted, was-refused}
@@ -41,6 +42,14 @@ pub leaves-same : (o below : Outcome (List ℕ)) (old final : List ℕ) (w : Out
     → w ≡ onAccepted length below → final ≡ outAfter below old → (w ≡ onAccepted length o) × (final ≡ outAfter o old)
 leaves-same o below old final w e a f =
     (a ∙ sym (ap (onAccepted length) e), f ∙ sym (ap (λ (x : Outcome (List ℕ)). outAfter x old) e))
+
+-- of a typed message, by its case
+pub leaves-same-case : (room : ℕ) (m case : Counted) (items old final : List ℕ) (w : Outcome ℕ) → m ≡ case
+    → w ≡ onAccepted length (inRoom room (writeCounted case items)) → final ≡ outAfter (inRoom room (writeCounted case items)) old
+    → (w ≡ onAccepted length (inRoom room (writeCounted m items))) × (final ≡ outAfter (inRoom room (writeCounted m items)) old)
+leaves-same-case room m case items old final w is a f =
+    leaves-same (inRoom room (writeCounted m items)) (inRoom room (writeCounted case items)) old final w
+    (ap (λ (x : Counted). inRoom room (writeCounted x items)) is) a f
 
 pub leaves-nothing : (o : Outcome (List ℕ)) (old : List ℕ) (n : ℕ) → o ≡ refused n
     → (refused n ≡ onAccepted length o) × (old ≡ outAfter o old)

@@ -28,7 +28,7 @@ use Rattle.message.specs.declared.items.TextMessage.{TextMessage}
 use Rattle.message.proofs.Laws.Decode.{fixed-back, zones-back, events-back, texts-back}
 use Rattle.message.proofs.Laws.Checked.{passes, never}
 use Rattle.message.proofs.Laws.Lists.{texts-length}
-use Rattle.message.proofs.Laws.Accepts.{zones-of, events-of, texts-of, every-type, every-plain, every-login, every-request, every-zones, every-events, every-texts, every-log, every-command}
+use Rattle.message.proofs.Laws.Accepts.{every-type, every-plain, every-login, every-request, every-zones, every-events, every-texts, every-log, every-command}
 use Rattle.message.proofs.Laws.Encode.{none-of, leading, two-of, four-of, ten-of, which-plain, command-encoded, word-apart, events-encoded, zones-encoded, texts-encoded}
 
 -- a written type and data bytes are read as what they carry
@@ -59,14 +59,14 @@ pub read-after-write : (m : Message) (s : List ℕ) → write m ≡ accepted s �
 unfolding write writeFixed messageOf plainListed
 read-after-write (fixed f) s e = same-read (fixedFrame f .kind) (fixedFrame f .bytes) s (fixed f) e (fixed-back f)
 read-after-write (zoneStatus zs) s e =
-    same-read 0x16 (zoneBytes zs) s (zoneStatus zs) e (λ r h. zones-of (zoneBytes zs) r h ∙ ap zoneStatus (zones-back zs))
+    same-read 0x16 (zoneBytes zs) s (zoneStatus zs) e (every-zones (λ r. r ≡ zoneStatus zs) (zoneBytes zs) (λ _ _. ap zoneStatus (zones-back zs)))
 read-after-write (events es) s e =
-    same-read 0x23 (eventBytes es) s (events es) e (λ r h. events-of (eventBytes es) r h ∙ ap events (events-back es))
+    same-read 0x23 (eventBytes es) s (events es) e (every-events (λ r. r ≡ events es) (eventBytes es) (λ _. ap events (events-back es)))
 read-after-write (messageStatus ts) s e =
     let p = passed (not (eqb (length ts % 4) 0)) 7 (writeMessage 0x25 (0 ∷ textBytes ts)) s e in
     let four : length ts % 4 ≡ 0 = eqb-true (length ts % 4) 0 (not-false (eqb (length ts % 4) 0) (p .0)) in
     same-read 0x25 (0 ∷ textBytes ts) s (messageStatus ts) (p .1)
-    (λ r h. texts-of (0 ∷ textBytes ts) r h ∙ ap messageStatus (texts-back ts four))
+    (every-texts (λ r. r ≡ messageStatus ts) (0 ∷ textBytes ts) (λ _ _. ap messageStatus (texts-back ts four)))
 
 -- ---- what is read writes back
 
