@@ -25,7 +25,7 @@ use Rattle.message.specs.declared.command.Duration.the-variants.{None, S
 use Rattle.message.specs.declared.command.Command.{Command}
 use Rattle.message.specs.declared.command.Command.the-variants.{Off, On, AllOff, AllOn, Level, Decrement, Increment, SetCounter}
 
--- the P1 of a count from 1 to a largest, above a base; a count outside has none: 100, which is no P1, so that it is written with answer 8
+-- the P1 of a count from 1 to a largest, above a base; a count outside has none: 100, which is no P1, so that the writer answers 8
 abbrev pub countP1 : ℕ → ℕ → ℕ → ℕ
 countP1 base most n = cond (leb 1 n && leb n most) (base + n) 100
 
