@@ -1,11 +1,11 @@
 -- Document 01, "Omni-Link messages": every type.
 use Prim.Native.Nat.{ℕ, _%_}
 use mathlib.Core.Bool.{Bool, cond, not, _&&_, _||_}
-use mathlib.Core.List.{List, []}
+use mathlib.Core.List.{List}
 use lib.Dec.{eqb, ltb, leb}
 use lib.ListN.{length, getD, drop}
 use Rattle.answer.specs.Answer.{Outcome, refused, accepted, refuseIf, andThen, onAccepted, numberOf}
-use Rattle.link.specs.Frame.{Frame, readFrame, writeFrame}
+use Rattle.link.specs.Frame.{readFrame, writeFrame}
 use Rattle.message.specs.Command.{readCommand}
 use Rattle.message.specs.Items.{zones, zonesListed, words, texts}
 use Rattle.message.specs.Log.{readLog}

@@ -4,7 +4,7 @@ use mathlib.Core.Bool.{Bool, true, false, cond, not, _&&_}
 use mathlib.Core.List.{List, [], _∷_}
 use lib.Dec.{eqb, leb}
 use lib.ListN.{length}
-use Rattle.answer.specs.Answer.{Outcome, refused, accepted, refuseIf}
+use Rattle.answer.specs.Answer.{Outcome, refuseIf}
 use Rattle.link.specs.Frame.{Frame}
 use Rattle.message.specs.Message.{Message, fixed, zoneStatus, events, messageStatus, writeMessage}
 use Rattle.message.specs.declared.items.Condition.{Condition}

@@ -1,17 +1,17 @@
 -- What is encoded is decoded to itself: of each typed message the data bytes carry it. Assumes nothing.
 use mathlib.Core.Path.{_≡_, refl, sym, ap, ap₂, _∙_}
-use mathlib.Core.Bool.{Bool, true, false, not, cond}
+use mathlib.Core.Bool.{Bool, true, false, not}
 use mathlib.Core.List.{List, [], _∷_}
-use Prim.Native.Nat.{ℕ, suc, _+_, _*_, _/_, _%_, _<_}
+use Prim.Native.Nat.{ℕ, _+_, _*_, _/_, _%_, _<_}
 use native.Mathlib.Nat.{div-add-mod'}
 use native.Mathlib.Omega.{arith}
 use lib.Dec.{eqb, leb}
 use lib.ListN.{length}
 use borrow.Author.Tests.{eq-eqb, ne-eqb, not-false}
-use Rattle.answer.specs.Answer.{Outcome, refused, accepted, refuseIf, onAccepted}
+use Rattle.answer.specs.Answer.{accepted}
 use Rattle.answer.proofs.Laws.Test.{passed}
-use Rattle.message.specs.Command.{durationOf, durationListed, commandListed, commandOf, checkedCommand, readCommand}
-use Rattle.message.specs.Items.{conditionOf, latchedOf, armingOf, zoneOf, textOf, zones, words, texts, wordOf}
+use Rattle.message.specs.Command.{commandListed, commandOf, checkedCommand, readCommand}
+use Rattle.message.specs.Items.{conditionOf, latchedOf, armingOf, zoneOf, textOf, zones, words, texts}
 use Rattle.message.specs.Log.{logListed, logOf, readLog}
 use Rattle.message.specs.Message.{Message, fixed, digitsListed, orderListed, plainListed, plainOf, readPlain, readLogin, readZoneRequest, messageOf}
 use Rattle.message.specs.Typed.{durationP1, parameters, commandBytes, logBytes, fixedFrame, conditionBits, latchedBits, armingBits, flag, statusByte, zoneBytes, eventBytes, textBits, textBytes}

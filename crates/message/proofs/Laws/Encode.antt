@@ -1,26 +1,25 @@
 -- What is decoded is encoded to itself: each message that data bytes carry is written as those bytes. Assumes nothing.
-use mathlib.Core.Path.{_≡_, refl, sym, ap, ap₂, subst, _∙_}
+use mathlib.Core.Path.{_≡_, refl, sym, ap, subst, _∙_}
 use mathlib.Core.Bool.{Bool, true, false, not, cond, _&&_, _||_}
 use mathlib.Core.List.{List, [], _∷_}
-use Prim.Native.Nat.{ℕ, zero, suc, _+_, _*_, _/_, _%_, _<_, _≤_}
-use native.Mathlib.Decide.{ℕ-discrete, decLt}
+use Prim.Native.Nat.{ℕ, zero, suc, _+_, _*_, _/_, _%_, _<_}
 use native.Mathlib.Omega.{arith}
 use lib.Dec.{T, eqb, ltb, leb, ltb→lt}
 use lib.Ieee.Fits.{and-l, and-r}
 use lib.ListN.{length, getD, drop}
 use lib.Pow.{areBytes}
-use borrow.Author.Tests.{eq-eqb, ne-eqb, lt-ltb, le-ltb, eqb-true, eqb-false, ltb-true, not-true}
-use Rattle.message.specs.Command.{durationOf, durationListed, commandListed, commandOf}
-use Rattle.message.specs.Items.{conditionOf, latchedOf, armingOf, zoneOf, zoneListed, zonesListed, textOf, zones, words, texts}
+use borrow.Author.Tests.{eqb-true, eqb-false, ltb-true, not-true}
+use Rattle.message.specs.Command.{durationListed, commandListed, commandOf}
+use Rattle.message.specs.Items.{zoneOf, zoneListed, zonesListed, textOf, zones, words, texts}
 use Rattle.message.specs.Message.{plainListed}
-use Rattle.message.specs.Typed.{durationP1, parameters, commandBytes, conditionBits, latchedBits, armingBits, flag, statusByte, zoneBytes, eventBytes, textBits, textBytes}
+use Rattle.message.specs.Typed.{parameters, commandBytes, conditionBits, latchedBits, armingBits, flag, statusByte, zoneBytes, eventBytes, textBits, textBytes}
 use Rattle.message.specs.declared.items.Condition.{Condition}
 use Rattle.message.specs.declared.items.Condition.the-variants as Condition
 use Rattle.message.specs.declared.items.LatchedAlarm.{LatchedAlarm}
 use Rattle.message.specs.declared.items.LatchedAlarm.the-variants as LatchedAlarm
 use Rattle.message.specs.declared.items.Arming.{Arming}
 use Rattle.message.specs.declared.items.Arming.the-variants as Arming
-use Rattle.message.proofs.Laws.Checked.{never, both}
+use Rattle.message.proofs.Laws.Checked.{both}
 use Rattle.message.proofs.Laws.Duration.{p1-after-duration}
 
 -- ---- lists of a known length, by their elements

@@ -1,5 +1,5 @@
 -- A message in its frame, by what the frame reader hands back. Assumes nothing.
-use mathlib.Core.Path.{_≡_, refl, sym, ap, ap₂, _∙_}
+use mathlib.Core.Path.{_≡_, refl, sym, ap, _∙_}
 use mathlib.Core.List.{List}
 use Prim.Native.Nat.{ℕ}
 use lib.ListN.{length}
@@ -7,7 +7,7 @@ use Rattle.answer.specs.Answer.{Outcome, refused, accepted, andThen, onAccepted
 use Rattle.link.specs.Frame.{Frame, Header, header, readFrame, writeFrame, dataPart}
 use Rattle.link.proofs.Laws.Whole.{data-part}
 use Rattle.message.specs.Typed.{writeCounted}
-use Rattle.message.specs.Message.{Message, messageOf, readMessage, writeMessage, counted}
+use Rattle.message.specs.Message.{Message, messageOf, writeMessage, counted}
 use Rattle.message.specs.declared.message.Message.{Message as Counted}
 use Rattle.message.proofs.Laws.Checked.{was-accepted, was-refused}
 

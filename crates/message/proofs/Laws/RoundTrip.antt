@@ -1,6 +1,6 @@
 -- What is written reads back as the same message, and what is read writes back to the same bytes. Assumes nothing.
 use mathlib.Core.Path.{_≡_, refl, sym, ap, ap₂, _∙_}
-use mathlib.Core.Bool.{Bool, true, false, not}
+use mathlib.Core.Bool.{true, not}
 use mathlib.Core.List.{List, [], _∷_}
 use Prim.Native.Nat.{ℕ, _+_, _*_, _/_, _%_}
 use native.Mathlib.Omega.{arith}
@@ -8,7 +8,7 @@ use lib.Dec.{T, eqb}
 use lib.ListN.{length, getD, drop}
 use lib.Pow.{areBytes}
 use borrow.Author.Tests.{eq-eqb, eqb-true, not-false}
-use Rattle.answer.specs.Answer.{Outcome, refused, accepted, refuseIf, andThen}
+use Rattle.answer.specs.Answer.{Outcome, refused, accepted, andThen}
 use Rattle.answer.proofs.Laws.Test.{passed, not-accepted}
 use Rattle.link.proofs.Laws.Bytes.{byte-at, drop-bytes}
 use Rattle.link.specs.Frame.{Frame, readFrame, writeFrame}
@@ -22,9 +22,6 @@ use Rattle.message.specs.declared.log.LogEntry.{LogEntry}
 use Rattle.message.specs.declared.message.Fixed.the-variants as F
 use Rattle.message.specs.Message.{Message, fixed, zoneStatus, events, messageStatus, messageOf, readMessage, writeMessage, plainListed, plainOf, statusLength}
 use Rattle.message.specs.Typed.{commandBytes, logBytes, fixedFrame, zoneBytes, eventBytes, textBytes, writeFixed, write}
-use Rattle.message.specs.declared.message.Fixed.{Fixed}
-use Rattle.message.specs.declared.items.Zone.{Zone}
-use Rattle.message.specs.declared.items.TextMessage.{TextMessage}
 use Rattle.message.proofs.Laws.Decode.{fixed-back, zones-back, events-back, texts-back}
 use Rattle.message.proofs.Laws.Checked.{passes, never}
 use Rattle.message.proofs.Laws.Lists.{texts-length}

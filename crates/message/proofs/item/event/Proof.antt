@@ -1,5 +1,4 @@
 use borrow.Author.Needs.{needs}
-use Rattle.message.proofs.Laws.Decided.{decided}
 use Rattle.message.proofs.Laws.Item.{item-found, item-refused}
 use Rattle.message.proofs.item.event.Statement.{statement}
 use Rattle.message.proofs.item.event.Tie as tie

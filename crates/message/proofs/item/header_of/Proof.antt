@@ -1,6 +1,5 @@
 use borrow.Author.Needs.{needs}
 use mathlib.Core.Path.{_∙_}
-use Rattle.message.proofs.Laws.Decided.{decided}
 use Rattle.message.proofs.Laws.Item.{header-unread, header-read, header-refused}
 use Rattle.message.proofs.item.header_of.Statement.{statement}
 use Rattle.message.proofs.item.header_of.Tie as tie

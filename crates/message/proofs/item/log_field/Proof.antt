@@ -1,7 +1,5 @@
 use borrow.Author.Needs.{needs}
 use mathlib.Core.Path.{sym}
-use native.Mathlib.Omega.{arith}
-use Rattle.message.proofs.Laws.Decided.{decided}
 use Rattle.message.proofs.Laws.Lists.{item-past, item-there}
 use Rattle.message.proofs.item.log_field.Statement.{statement}
 use Rattle.message.proofs.item.log_field.Tie as tie

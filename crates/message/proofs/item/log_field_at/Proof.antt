@@ -1,7 +1,6 @@
 use borrow.Author.Needs.{needs}
 use mathlib.Core.Path.{sym, ap, _∙_}
 use Rattle.answer.specs.Answer.{Outcome, andThen}
-use Rattle.message.proofs.Laws.Decided.{decided}
 use Rattle.message.proofs.item.log_field_at.Statement.{statement}
 use Rattle.message.proofs.item.log_field_at.Tie as tie
 use Rattle.message.specs.Item.{itemAt, logFields}

@@ -5,7 +5,6 @@ use lib.Seq.{getD-drop}
 use mathlib.Core.Path.{sym, ap, _∙_}
 use native.Mathlib.Omega.{arith}
 use Rattle.answer.specs.Answer.{accepted}
-use Rattle.message.proofs.Laws.Decided.{decided}
 use Rattle.message.proofs.Laws.Lists.{past-texts, text-item}
 use Rattle.message.proofs.item.text_at.Statement.{statement}
 use Rattle.message.proofs.item.text_at.Tie as tie

@@ -1,7 +1,6 @@
 use borrow.Author.Needs.{needs}
 use mathlib.Core.Path.{sym, ap, _∙_}
 use Rattle.answer.specs.Answer.{Outcome, onAccepted}
-use Rattle.message.proofs.Laws.Decided.{decided}
 use Rattle.message.proofs.message.log_entry.Statement.{statement}
 use Rattle.message.proofs.message.log_entry.Tie as tie
 use Rattle.message.specs.Log.{logRead}

@@ -1,10 +1,8 @@
 use Prim.Native.Nat.{ℕ}
 use borrow.Author.Needs.{needs}
 use mathlib.Core.Path.{sym, ap, _∙_}
-use native.Mathlib.Omega.{arith}
 use Rattle.answer.specs.Answer.{onAccepted}
 use Rattle.answer.proofs.Laws.Test.{in-one}
-use Rattle.message.proofs.Laws.Decided.{decided}
 use Rattle.message.proofs.Laws.Kinds.{is-plain, unknown}
 use Rattle.message.proofs.message.of_data.Statement.{statement}
 use Rattle.message.proofs.message.of_data.Tie as tie

@@ -4,7 +4,6 @@ use mathlib.Core.List.{List}
 use mathlib.Core.Path.{sym, ap, _∙_}
 use Rattle.answer.specs.Answer.{onAccepted}
 use Rattle.link.specs.Frame.{outcomeOf, readFrame}
-use Rattle.message.proofs.Laws.Decided.{decided}
 use Rattle.message.proofs.Laws.Framed.{framed, unframed}
 use Rattle.message.proofs.message.read.Statement.{statement}
 use Rattle.message.proofs.message.read.Tie as tie

@@ -1,9 +1,8 @@
-use Prim.Native.Nat.{ℕ, suc, _+_, _-_, _%_, _≤_, zero-le}
+use Prim.Native.Nat.{_+_, _-_, _%_, _≤_, zero-le}
 use lib.ListN.{length, getD, drop}
 use mathlib.Core.Bool.{Bool, true, false, _&&_}
 use mathlib.Core.Path.{_≡_, refl, sym, ap, _∙_}
 use native.Mathlib.Omega.{arith}
-use Rattle.message.proofs.Laws.Decided.{decided}
 use Rattle.message.proofs.Laws.Lists.{zones-step, zones-end}
 use Rattle.message.proofs.message.zones_listed.Statement.{statement}
 use Rattle.message.proofs.message.zones_listed.Tie as tie

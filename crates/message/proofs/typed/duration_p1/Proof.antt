@@ -1,5 +1,4 @@
 use borrow.Author.Needs.{needs}
-use Rattle.message.proofs.Laws.Decided.{decided}
 use Rattle.message.proofs.typed.duration_p1.Statement.{statement}
 use Rattle.message.proofs.typed.duration_p1.Tie as tie
 

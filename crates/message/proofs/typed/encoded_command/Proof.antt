@@ -1,7 +1,6 @@
 use Prim.Native.Nat.{ℕ}
 use borrow.Author.Needs.{needs}
 use mathlib.Core.Path.{sym, ap, _∙_}
-use Rattle.message.proofs.Laws.Decided.{decided}
 use Rattle.message.proofs.typed.encoded_command.Statement.{statement}
 use Rattle.message.proofs.typed.encoded_command.Tie as tie
 use Rattle.message.specs.Parts.{encoded}

@@ -1,6 +1,5 @@
 use borrow.Author.Needs.{needs}
 use mathlib.Core.Path.{sym, ap, _∙_}
-use Rattle.message.proofs.Laws.Decided.{decided}
 use Rattle.message.proofs.typed.encoded_fixed.Statement.{statement}
 use Rattle.message.proofs.typed.encoded_fixed.Tie as tie
 use Rattle.message.specs.Parts.{encoded}

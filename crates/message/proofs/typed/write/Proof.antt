@@ -1,6 +1,5 @@
 use borrow.Author.Needs.{needs}
 use lib.ListN.{length}
-use Rattle.message.proofs.Laws.Decided.{decided}
 use Rattle.message.proofs.Laws.Framed.{leaves-same-case}
 use Rattle.message.proofs.typed.write.Statement.{statement}
 use Rattle.message.proofs.typed.write.Tie as tie

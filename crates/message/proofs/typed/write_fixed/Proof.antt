@@ -4,7 +4,6 @@ use lib.ListN.{length, take}
 use lib.Seq.{length-take-le}
 use mathlib.Core.Path.{sym, ap, subst⁻¹, _∙_}
 use Rattle.answer.specs.Answer.{inRoom}
-use Rattle.message.proofs.Laws.Decided.{decided}
 use Rattle.message.proofs.Laws.Encoded.{within, data-of}
 use Rattle.message.proofs.Laws.Framed.{leaves-same}
 use Rattle.message.proofs.typed.write_fixed.Statement.{statement}
