@@ -1,59 +1,23 @@
 -- The C interface's Omni-Link messages: the fields of each packed value, in the header's order.
 use Prim.Native.Nat.{ℕ}
 use mathlib.Core.List.{List, [], _∷_}
-use lib.ListN.{length}
 use Rattle.answer.specs.Packed.{Field, byte, word}
-use Rattle.message.specs.Message.{Message, fixed, zoneStatus, events, messageStatus}
-use Rattle.message.specs.Typed.{conditionBits, latchedBits, armingBits, flag}
+use Rattle.message.specs.Typed.{fixedFrame, conditionBits, latchedBits, armingBits, flag}
 use Rattle.message.specs.declared.command.Command.{Command}
 use Rattle.message.specs.declared.command.Command.the-variants as C
 use Rattle.message.specs.declared.command.Duration.{Duration}
 use Rattle.message.specs.declared.command.Duration.the-variants as D
 use Rattle.message.specs.declared.items.TextMessage.{TextMessage}
 use Rattle.message.specs.declared.items.Zone.{Zone}
-use Rattle.message.specs.declared.message.Fixed.{Fixed}
-use Rattle.message.specs.declared.message.Fixed.the-variants as F
-use Rattle.message.specs.declared.message.Message.{Message as Counted}
+use Rattle.message.specs.declared.message.Message.{Message}
 use Rattle.message.specs.declared.message.Message.the-variants as M
 
--- the types of document 01, "Omni-Link messages": those of fixed length
-abbrev pub fixedKind : Fixed → ℕ
-fixedKind F.Acknowledge = 0x05
-fixedKind F.NegativeAcknowledge = 0x06
-fixedKind F.UploadEventLog = 0x0D
-fixedKind F.RequestSystemInformation = 0x11
-fixedKind F.RequestSystemStatus = 0x13
-fixedKind F.Logout = 0x21
-fixedKind F.RequestSystemEvents = 0x22
-fixedKind (F.Login a b c d) = 0x20
-fixedKind (F.ZoneRequest first last) = 0x15
-fixedKind (F.LogEntry e) = 0x0E
-fixedKind (F.Command c) = 0x0F
-
--- and those that hold a list
-abbrev pub kindOf : Message → ℕ
-kindOf (fixed f) = fixedKind f
-kindOf (zoneStatus zs) = 0x16
-kindOf (events es) = 0x23
-kindOf (messageStatus ts) = 0x25
-
--- the count of items: zones, events, text messages; 0 for the others
-abbrev pub countOf : Message → ℕ
-countOf (fixed f) = 0
-countOf (zoneStatus zs) = length zs
-countOf (events es) = length es
-countOf (messageStatus ts) = length ts
-
--- a message: type (8), count of items (8)
+-- a message: type (8), count of items (8), which is 0 but for zones, events and text messages
 abbrev pub messageFields : Message → List Field
-messageFields m = byte (kindOf m) ∷ byte (countOf m) ∷ []
-
--- the same of a message with its list as a count
-abbrev pub countedFields : Counted → List Field
-countedFields (M.Fixed f) = byte (fixedKind f) ∷ byte 0 ∷ []
-countedFields (M.ZoneStatus n) = byte 0x16 ∷ byte n ∷ []
-countedFields (M.Events n) = byte 0x23 ∷ byte n ∷ []
-countedFields (M.MessageStatus n) = byte 0x25 ∷ byte n ∷ []
+messageFields (M.Fixed f) = byte (fixedFrame f .kind) ∷ byte 0 ∷ []
+messageFields (M.ZoneStatus n) = byte 0x16 ∷ byte n ∷ []
+messageFields (M.Events n) = byte 0x23 ∷ byte n ∷ []
+messageFields (M.MessageStatus n) = byte 0x25 ∷ byte n ∷ []
 
 -- a zone: condition (8), latched alarm (8), arming (8), unacknowledged trouble (8), loop reading (8)
 abbrev pub zoneFields : Zone → List Field

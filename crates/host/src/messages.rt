@@ -16,17 +16,17 @@ use message::message::MessageRead;
 ghost use mathlib.Core.Path.{_≡_};
 ghost use mathlib.Core.List.{[], _∷_};
 ghost use lib.ListN.{length};
-ghost use Rattle.answer.specs.Answer.{accepted, onAccepted, andThen, inRoom, outAfter};
+ghost use Rattle.answer.specs.Answer.{accepted, onAccepted, inRoom, outAfter};
 ghost use Rattle.answer.specs.Packed.{packed, byte, word};
 ghost use Rattle.message.specs.Command.{commandRead};
 ghost use Rattle.message.specs.Item.{zoneItem, eventItem, textItem, logItem, commandItem, zoneRead, wordRead, textRead};
-ghost use Rattle.message.specs.Message.{readMessage, writeMessage, messageRead};
-ghost use Rattle.message.specs.Typed.{conditionBits, latchedBits, armingBits, flag};
-ghost use Rattle.host.specs.Messages.{fixedKind, messageFields, countedFields, zoneFields, wordFields, textFields, durationUnit, durationCount, commandFields};
+ghost use Rattle.message.specs.Message.{counted, readMessage, writeMessage, messageRead};
+ghost use Rattle.message.specs.Typed.{fixedFrame, conditionBits, latchedBits, armingBits, flag};
+ghost use Rattle.host.specs.Messages.{messageFields, zoneFields, wordFields, textFields, durationUnit, durationCount, commandFields};
 
 // The type of a message of fixed length.
 fn fixed_kind(f: Fixed) -> u8
-    ensures { λ n. ⌜ n ≡ fixedKind f ⌝ }
+    ensures { λ n. ⌜ n ≡ fixedFrame f .kind ⌝ }
 {
     match f {
         Fixed::Acknowledge => 0x05,
@@ -49,7 +49,7 @@ fn fixed_kind(f: Fixed) -> u8
 }
 
 fn packed_message(m: Message) -> u64
-    ensures { λ n. ⌜ n ≡ packed (accepted (countedFields m)) ⌝ }
+    ensures { λ n. ⌜ n ≡ packed (accepted (messageFields m)) ⌝ }
 {
     match m {
         Message::Fixed(f) => answer::pack_2_bytes(fixed_kind(f), 0),
@@ -60,7 +60,7 @@ fn packed_message(m: Message) -> u64
 }
 
 fn pack_message(r: MessageRead) -> u64
-    ensures { λ n. ⌜ n ≡ packed (onAccepted countedFields (messageRead r)) ⌝ }
+    ensures { λ n. ⌜ n ≡ packed (onAccepted messageFields (messageRead r)) ⌝ }
 {
     match r {
         MessageRead::Accepted(m) => packed_message(m),
@@ -212,7 +212,7 @@ fn pack_command(r: CommandRead) -> u64
 // Type (8), count of items (8).
 #[no_mangle]
 pub extern "C" fn omnilink_message_read(bytes: &[u8]) -> u64
-    ensures { λ n. ⌜ n ≡ packed (onAccepted messageFields (readMessage (now (bytes .entry)))) ⌝ }
+    ensures { λ n. ⌜ n ≡ packed (onAccepted (λ m. messageFields (counted m)) (readMessage (now (bytes .entry)))) ⌝ }
 {
     pack_message(message::message::read(bytes))
 }
@@ -229,7 +229,7 @@ pub extern "C" fn omnilink_message_write(kind: u8, data: &[u8], out: &mut [u8]) 
 // Condition (8), latched alarm (8), arming (8), unacknowledged trouble (8), loop reading (8) of zone i.
 #[no_mangle]
 pub extern "C" fn omnilink_zone(bytes: &[u8], i: usize) -> u64
-    ensures { λ n. ⌜ n ≡ packed (onAccepted zoneFields (andThen (readMessage (now (bytes .entry))) (zoneItem i))) ⌝ }
+    ensures { λ n. ⌜ n ≡ packed (onAccepted zoneFields (zoneItem i (now (bytes .entry)))) ⌝ }
 {
     pack_zone(message::item::zone(bytes, i))
 }
@@ -237,7 +237,7 @@ pub extern "C" fn omnilink_zone(bytes: &[u8], i: usize) -> u64
 // Event i (16).
 #[no_mangle]
 pub extern "C" fn omnilink_event(bytes: &[u8], i: usize) -> u64
-    ensures { λ n. ⌜ n ≡ packed (onAccepted wordFields (andThen (readMessage (now (bytes .entry))) (eventItem i))) ⌝ }
+    ensures { λ n. ⌜ n ≡ packed (onAccepted wordFields (eventItem i (now (bytes .entry)))) ⌝ }
 {
     pack_word(message::item::event(bytes, i))
 }
@@ -245,7 +245,7 @@ pub extern "C" fn omnilink_event(bytes: &[u8], i: usize) -> u64
 // Displayed (8), not acknowledged (8) of text message i.
 #[no_mangle]
 pub extern "C" fn omnilink_text_message(bytes: &[u8], i: usize) -> u64
-    ensures { λ n. ⌜ n ≡ packed (onAccepted textFields (andThen (readMessage (now (bytes .entry))) (textItem i))) ⌝ }
+    ensures { λ n. ⌜ n ≡ packed (onAccepted textFields (textItem i (now (bytes .entry)))) ⌝ }
 {
     pack_text(message::item::text_message(bytes, i))
 }
@@ -253,7 +253,7 @@ pub extern "C" fn omnilink_text_message(bytes: &[u8], i: usize) -> u64
 // Command (8), unit of duration (8), count of the duration, percent or value (8), P2 (16).
 #[no_mangle]
 pub extern "C" fn omnilink_command(bytes: &[u8]) -> u64
-    ensures { λ n. ⌜ n ≡ packed (onAccepted commandFields (andThen (readMessage (now (bytes .entry))) commandItem)) ⌝ }
+    ensures { λ n. ⌜ n ≡ packed (onAccepted commandFields (commandItem (now (bytes .entry)))) ⌝ }
 {
     pack_command(message::item::command(bytes))
 }
@@ -261,7 +261,7 @@ pub extern "C" fn omnilink_command(bytes: &[u8]) -> u64
 // The field (16) of a log entry, 0 to 8.
 #[no_mangle]
 pub extern "C" fn omnilink_log_entry(bytes: &[u8], field: usize) -> u64
-    ensures { λ n. ⌜ n ≡ packed (onAccepted wordFields (andThen (readMessage (now (bytes .entry))) (logItem field))) ⌝ }
+    ensures { λ n. ⌜ n ≡ packed (onAccepted wordFields (logItem field (now (bytes .entry)))) ⌝ }
 {
     pack_word(message::item::log_entry(bytes, field))
 }

@@ -1,3 +1,4 @@
+pub mod Accepts
 pub mod Checked
 pub mod Decided
 pub mod Decode

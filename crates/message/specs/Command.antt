@@ -1,6 +1,6 @@
 -- Document 01, "Omni-Link messages", type 0F: commands and their durations.
 use Prim.Native.Nat.{ℕ, _+_, _-_, _*_}
-use mathlib.Core.Bool.{Bool, true, false, cond, not}
+use mathlib.Core.Bool.{Bool, cond, not, _&&_}
 use mathlib.Core.List.{List}
 use lib.Dec.{eqb, ltb, leb}
 use lib.ListN.{length, getD}
@@ -14,7 +14,7 @@ use Rattle.message.specs.declared.command.CommandRead.the-variants.{Acce
 
 -- the P1 of a duration: 0, 1-99, 101-199, 201-218
 abbrev pub durationListed : ℕ → Bool
-durationListed p = cond (eqb p 100) false (cond (eqb p 200) false (ltb p 219))
+durationListed p = not (eqb p 100) && not (eqb p 200) && ltb p 219
 
 -- a duration: none, seconds, minutes or hours
 abbrev pub durationOf : ℕ → Duration
@@ -25,12 +25,12 @@ unfoldable pub commandListed : ℕ → ℕ → ℕ → Bool
 commandListed number p1 p2 =
     cond (eqb number 2) (eqb p1 0)
     (cond (eqb number 3) (eqb p1 0)
-    (cond (eqb p2 0) false
-    (cond (ltb number 2) (durationListed p1)
+    (leb 1 p2
+    && cond (ltb number 2) (durationListed p1)
     (cond (eqb number 9) (leb p1 100)
     (cond (eqb number 10) (eqb p1 0)
     (cond (eqb number 11) (eqb p1 0)
-    (eqb number 12)))))))
+    (eqb number 12))))))
 
 -- commands 0 (off), 1 (on), 2, 3, 9, 10, 11 and 12, in document 000's words
 unfoldable pub commandOf : ℕ → ℕ → ℕ → Command

@@ -1,15 +1,17 @@
 -- The C interface's item calls: the message reader's refusals, then 6 for a message of another type, then 8 for an index past the last.
 use Prim.Native.Nat.{ℕ, zero, suc}
-use mathlib.Core.Bool.{cond}
-use lib.Dec.{eqb}
+use mathlib.Core.Bool.{not}
 use mathlib.Core.List.{List, [], _∷_}
-use Rattle.answer.specs.Answer.{Outcome, refused, accepted, andThen, numberOf}
-use Rattle.link.specs.Frame.{Header, header, readFrame}
-use Rattle.message.specs.Message.{Message, fixed, zoneStatus, events, messageStatus, messageOf}
+use lib.Dec.{eqb}
+use lib.ListN.{drop}
+use Rattle.answer.specs.Answer.{Outcome, refused, accepted, refuseIf, andThen, numberOf}
+use Rattle.link.specs.Frame.{Frame, readFrame}
+use Rattle.message.specs.Command.{readCommand}
+use Rattle.message.specs.Items.{zones, words, texts}
+use Rattle.message.specs.Log.{readLog}
+use Rattle.message.specs.Message.{readMessage}
 use Rattle.message.specs.declared.command.Command.{Command}
 use Rattle.message.specs.declared.log.LogEntry.{LogEntry}
-use Rattle.message.specs.declared.message.Fixed.{Fixed}
-use Rattle.message.specs.declared.message.Fixed.the-variants as F
 use Rattle.message.specs.declared.items.Zone.{Zone}
 use Rattle.message.specs.declared.items.TextMessage.{TextMessage}
 use Rattle.message.specs.declared.item.ZoneRead.{ZoneRead}
@@ -19,85 +21,46 @@ use Rattle.message.specs.declared.item.WordRead.the-variants as W
 use Rattle.message.specs.declared.item.TextRead.{TextRead}
 use Rattle.message.specs.declared.item.TextRead.the-variants as T
 
--- the type and the count of data bytes of a whole message, or the message reader's refusal
-unfoldable pub messageHeader : List ℕ → Outcome Header
-messageHeader s = andThen (readFrame s) (λ f. andThen (messageOf (f .kind) (f .bytes)) (λ m. accepted (header f)))
+-- the frame of a whole message of a type: the message reader's refusals, then 6 for another type
+unfoldable pub frameOf : ℕ → List ℕ → Outcome Frame
+frameOf kind s =
+    andThen (readMessage s) (λ m.
+    andThen (readFrame s) (λ f. refuseIf (not (eqb (f .kind) kind)) 6 (accepted f)))
 
--- item i of a list
+-- an item of a whole message of a type, as it is found in the data bytes
+unfoldable pub itemOf : {A : Type 0} → ℕ → (List ℕ → Outcome A) → List ℕ → Outcome A
+itemOf kind look s = andThen (frameOf kind s) (λ f. look (f .bytes))
+
+-- item i of a list; past the last is 8
 abbrev pub itemAt : {A : Type 0} → List A → ℕ → Outcome A
 itemAt [] i = refused 8
 itemAt (a ∷ l) zero = accepted a
 itemAt (a ∷ l) (suc i) = itemAt l i
 
-abbrev pub zoneItem : ℕ → Message → Outcome Zone
-zoneItem i (fixed f) = refused 6
-zoneItem i (zoneStatus zs) = itemAt zs i
-zoneItem i (events es) = refused 6
-zoneItem i (messageStatus ts) = refused 6
+-- zone i of a zone status
+abbrev pub zoneItem : ℕ → List ℕ → Outcome Zone
+zoneItem i = itemOf 0x16 (λ d. itemAt (zones d) i)
 
-abbrev pub eventItem : ℕ → Message → Outcome ℕ
-eventItem i (fixed f) = refused 6
-eventItem i (zoneStatus zs) = refused 6
-eventItem i (events es) = itemAt es i
-eventItem i (messageStatus ts) = refused 6
+-- event i
+abbrev pub eventItem : ℕ → List ℕ → Outcome ℕ
+eventItem i = itemOf 0x23 (λ d. itemAt (words d) i)
 
-abbrev pub textItem : ℕ → Message → Outcome TextMessage
-textItem i (fixed f) = refused 6
-textItem i (zoneStatus zs) = refused 6
-textItem i (events es) = refused 6
-textItem i (messageStatus ts) = itemAt ts i
+-- text message i of a message status
+abbrev pub textItem : ℕ → List ℕ → Outcome TextMessage
+textItem i = itemOf 0x25 (λ d. itemAt (texts (drop 1 d)) i)
 
--- field 0 to 8 of a log entry in the paper's order, parameter 2 as one
-unfoldable pub logField : LogEntry → ℕ → Outcome ℕ
-logField e i =
-    cond (eqb i 0) (accepted (e .number))
-    (cond (eqb i 1) (accepted (e .«time_valid»))
-    (cond (eqb i 2) (accepted (e .month))
-    (cond (eqb i 3) (accepted (e .day))
-    (cond (eqb i 4) (accepted (e .hour))
-    (cond (eqb i 5) (accepted (e .minute))
-    (cond (eqb i 6) (accepted (e .«event_type»))
-    (cond (eqb i 7) (accepted (e .«parameter_1»))
-    (cond (eqb i 8) (accepted (e .«parameter_2»))
-    (refused 8)))))))))
+-- the fields of a log entry in the paper's order, parameter 2 as one
+abbrev pub logFields : LogEntry → List ℕ
+logFields e =
+    e .number ∷ e .«time_valid» ∷ e .month ∷ e .day ∷ e .hour ∷ e .minute ∷ e .«event_type» ∷ e .«parameter_1» ∷ e .«parameter_2» ∷ []
 
-abbrev pub logFixed : ℕ → Fixed → Outcome ℕ
-logFixed i F.Acknowledge = refused 6
-logFixed i F.NegativeAcknowledge = refused 6
-logFixed i F.UploadEventLog = refused 6
-logFixed i F.RequestSystemInformation = refused 6
-logFixed i F.RequestSystemStatus = refused 6
-logFixed i F.Logout = refused 6
-logFixed i F.RequestSystemEvents = refused 6
-logFixed i (F.Login a b c d) = refused 6
-logFixed i (F.ZoneRequest a b) = refused 6
-logFixed i (F.LogEntry e) = logField e i
-logFixed i (F.Command c) = refused 6
+-- field i of a log entry
+abbrev pub logItem : ℕ → List ℕ → Outcome ℕ
+logItem i = itemOf 0x0E (λ d. andThen (readLog d) (λ e. itemAt (logFields e) i))
 
-abbrev pub logItem : ℕ → Message → Outcome ℕ
-logItem i (fixed f) = logFixed i f
-logItem i (zoneStatus zs) = refused 6
-logItem i (events es) = refused 6
-logItem i (messageStatus ts) = refused 6
-
-abbrev pub commandFixed : Fixed → Outcome Command
-commandFixed F.Acknowledge = refused 6
-commandFixed F.NegativeAcknowledge = refused 6
-commandFixed F.UploadEventLog = refused 6
-commandFixed F.RequestSystemInformation = refused 6
-commandFixed F.RequestSystemStatus = refused 6
-commandFixed F.Logout = refused 6
-commandFixed F.RequestSystemEvents = refused 6
-commandFixed (F.Login a b c d) = refused 6
-commandFixed (F.ZoneRequest a b) = refused 6
-commandFixed (F.LogEntry e) = refused 6
-commandFixed (F.Command c) = accepted c
-
-abbrev pub commandItem : Message → Outcome Command
-commandItem (fixed f) = commandFixed f
-commandItem (zoneStatus zs) = refused 6
-commandItem (events es) = refused 6
-commandItem (messageStatus ts) = refused 6
+-- the command of a command message
+abbrev pub commandItem : List ℕ → Outcome Command
+commandItem = itemOf 0x0F readCommand
 
 abbrev pub zoneRead : ZoneRead → Outcome Zone
 zoneRead (Z.Accepted z) = accepted z

@@ -1,6 +1,6 @@
 -- Document 01, "Omni-Link messages": the items of types 16, 23 and 25.
 use Prim.Native.Nat.{ℕ, _+_, _*_, _/_, _%_}
-use mathlib.Core.Bool.{Bool, true, false, cond, _&&_}
+use mathlib.Core.Bool.{Bool, true, cond, not, _&&_}
 use mathlib.Core.List.{List, [], _∷_}
 use lib.Dec.{eqb, ltb}
 use Rattle.message.specs.declared.items.Condition.{Condition}
@@ -40,7 +40,7 @@ zoneOf s reading =
 
 -- the value 3 in either of the first two fields, or bit 7 set, is outside the list
 abbrev pub zoneListed : ℕ → Bool
-zoneListed s = cond (eqb (s % 4) 3) false (cond (eqb (s / 4 % 4) 3) false (ltb s 128))
+zoneListed s = not (eqb (s % 4) 3) && not (eqb (s / 4 % 4) 3) && ltb s 128
 
 -- a text message of two bits: low bit displayed, high bit not acknowledged
 abbrev pub textOf : ℕ → TextMessage
@@ -59,7 +59,7 @@ zones d = pairs zoneOf d
 abbrev pub zonesListed : List ℕ → Bool
 zonesListed [] = true
 zonesListed (s ∷ []) = true
-zonesListed (s ∷ r ∷ d) = cond (zoneListed s) (zonesListed d) false
+zonesListed (s ∷ r ∷ d) = zoneListed s && zonesListed d
 
 -- events, high byte first
 abbrev pub wordOf : ℕ → ℕ → ℕ
@@ -68,10 +68,7 @@ wordOf hi lo = hi * 256 + lo
 abbrev pub words : List ℕ → List ℕ
 words d = pairs wordOf d
 
--- four messages a byte, the lowest-numbered in the two high bits: the bits of message k of the four
-abbrev pub twoBits : ℕ → ℕ → ℕ
-twoBits b k = cond (eqb k 0) (b / 64) (cond (eqb k 1) (b / 16 % 4) (cond (eqb k 2) (b / 4 % 4) (b % 4)))
-
+-- four messages a byte, the lowest-numbered in the two high bits
 abbrev pub texts : List ℕ → List TextMessage
 texts [] = []
-texts (b ∷ d) = textOf (twoBits b 0) ∷ textOf (twoBits b 1) ∷ textOf (twoBits b 2) ∷ textOf (twoBits b 3) ∷ texts d
+texts (b ∷ d) = textOf (b / 64) ∷ textOf (b / 16 % 4) ∷ textOf (b / 4 % 4) ∷ textOf (b % 4) ∷ texts d

@@ -3,4 +3,5 @@ pub mod Item
 pub mod Items
 pub mod Log
 pub mod Message
+pub mod Parts
 pub mod Typed

@@ -1,8 +1,8 @@
 -- Document 01, "Omni-Link messages", type 0E: log entries.
 use Prim.Native.Nat.{ℕ, _+_, _*_}
-use mathlib.Core.Bool.{Bool, true, false, cond, not}
+use mathlib.Core.Bool.{Bool, not, _&&_, _||_}
 use mathlib.Core.List.{List}
-use lib.Dec.{eqb, ltb}
+use lib.Dec.{eqb, leb}
 use lib.ListN.{length, getD}
 use Rattle.answer.specs.Answer.{Outcome, refused, accepted, refuseIf, numberOf}
 use Rattle.message.specs.declared.log.LogEntry.{LogEntry}
@@ -11,20 +11,11 @@ use Rattle.message.specs.declared.log.LogRead.the-variants.{Accepted, Re
 
 -- calendar ranges 1-12, 1-31, 0-23, 0-59
 unfoldable pub calendarListed : ℕ → ℕ → ℕ → ℕ → Bool
-calendarListed month day hour minute =
-    cond (eqb month 0) false
-    (cond (ltb 12 month) false
-    (cond (eqb day 0) false
-    (cond (ltb 31 day) false
-    (cond (ltb 23 hour) false
-    (ltb minute 60)))))
+calendarListed month day hour minute = leb 1 month && leb month 12 && leb 1 day && leb day 31 && leb hour 23 && leb minute 59
 
 -- number at least 1; the calendar ranges hold only if the flag is nonzero
 unfoldable pub logListed : LogEntry → Bool
-logListed e =
-    cond (eqb (e .number) 0) false
-    (cond (eqb (e .«time_valid») 0) true
-    (calendarListed (e .month) (e .day) (e .hour) (e .minute)))
+logListed e = leb 1 (e .number) && (eqb (e .«time_valid») 0 || calendarListed (e .month) (e .day) (e .hour) (e .minute))
 
 -- number, time-valid flag, month, day, hour, minute, event type, parameter 1, parameter 2 high, low
 unfoldable pub logOf : List ℕ → LogEntry

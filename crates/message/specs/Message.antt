@@ -1,11 +1,11 @@
 -- Document 01, "Omni-Link messages": every type.
 use Prim.Native.Nat.{ℕ, _%_}
-use mathlib.Core.Bool.{Bool, true, false, cond, not}
-use mathlib.Core.List.{List, []}
+use mathlib.Core.Bool.{Bool, cond, not, _&&_, _||_}
+use mathlib.Core.List.{List}
 use lib.Dec.{eqb, ltb, leb}
 use lib.ListN.{length, getD, drop}
 use Rattle.answer.specs.Answer.{Outcome, refused, accepted, refuseIf, andThen, onAccepted, numberOf}
-use Rattle.link.specs.Frame.{Frame, readFrame, writeFrame}
+use Rattle.link.specs.Frame.{readFrame, writeFrame}
 use Rattle.message.specs.Command.{readCommand}
 use Rattle.message.specs.Items.{zones, zonesListed, words, texts}
 use Rattle.message.specs.Log.{readLog}
@@ -28,13 +28,7 @@ pub data Message : Type 0 where
 -- 05, 06, 0D, 11, 13, 21, 22: L=1
 unfoldable pub plainListed : ℕ → Bool
 plainListed kind =
-    cond (eqb kind 0x05) true
-    (cond (eqb kind 0x06) true
-    (cond (eqb kind 0x0D) true
-    (cond (eqb kind 0x11) true
-    (cond (eqb kind 0x13) true
-    (cond (eqb kind 0x21) true
-    (eqb kind 0x22))))))
+    eqb kind 0x05 || eqb kind 0x06 || eqb kind 0x0D || eqb kind 0x11 || eqb kind 0x13 || eqb kind 0x21 || eqb kind 0x22
 
 unfoldable pub plainOf : ℕ → Fixed
 plainOf kind =
@@ -51,8 +45,7 @@ readPlain kind d = refuseIf (not (eqb (length d) 0)) 7 (accepted (fixed (plainOf
 
 -- 20 login: L=5, four digits 00 to 09
 unfoldable pub digitsListed : ℕ → ℕ → ℕ → ℕ → Bool
-digitsListed first second third fourth =
-    cond (ltb 9 first) false (cond (ltb 9 second) false (cond (ltb 9 third) false (leb fourth 9)))
+digitsListed first second third fourth = leb first 9 && leb second 9 && leb third 9 && leb fourth 9
 
 unfoldable pub readLogin : List ℕ → Outcome Message
 readLogin d =
@@ -62,7 +55,7 @@ readLogin d =
 
 -- 15 zone request: L=3, first and last zone, 1 <= first <= last
 unfoldable pub orderListed : ℕ → ℕ → Bool
-orderListed first last = cond (eqb first 0) false (leb first last)
+orderListed first last = leb 1 first && leb first last
 
 unfoldable pub readZoneRequest : List ℕ → Outcome Message
 readZoneRequest d =
@@ -88,21 +81,13 @@ readEvents d =
 
 -- 25 message status: L=06, 12 or 22, so 5, 17 or 33 data bytes; the first 00
 unfoldable pub statusLength : ℕ → Bool
-statusLength n = cond (eqb n 5) true (cond (eqb n 17) true (eqb n 33))
+statusLength n = eqb n 5 || eqb n 17 || eqb n 33
 
 unfoldable pub readMessageStatus : List ℕ → Outcome Message
 readMessageStatus d =
     refuseIf (not (statusLength (length d))) 7
     (refuseIf (not (eqb (getD d 0 0) 0)) 8
     (accepted (messageStatus (texts (drop 1 d)))))
-
--- 0E log entry
-unfoldable pub logMessage : List ℕ → Outcome Message
-logMessage d = onAccepted (λ e. fixed (F.LogEntry e)) (readLog d)
-
--- 0F command
-unfoldable pub commandMessage : List ℕ → Outcome Message
-commandMessage d = onAccepted (λ c. fixed (F.Command c)) (readCommand d)
 
 -- 6, 7, 8: all other types are 6
 unfoldable pub messageOf : ℕ → List ℕ → Outcome Message
@@ -113,8 +98,8 @@ messageOf kind d =
     (cond (eqb kind 0x16) (readZoneStatus d)
     (cond (eqb kind 0x23) (readEvents d)
     (cond (eqb kind 0x25) (readMessageStatus d)
-    (cond (eqb kind 0x0E) (logMessage d)
-    (cond (eqb kind 0x0F) (commandMessage d)
+    (cond (eqb kind 0x0E) (onAccepted (λ e. fixed (F.LogEntry e)) (readLog d))
+    (cond (eqb kind 0x0F) (onAccepted (λ c. fixed (F.Command c)) (readCommand d))
     (refused 6))))))))
 
 -- the message reader: the frame reader's answers, then 6, 7, 8

@@ -1,11 +1,11 @@
 -- Document 01, "Omni-Link messages": writing typed messages.
 use Prim.Native.Nat.{ℕ, _+_, _*_, _/_, _%_}
-use mathlib.Core.Bool.{Bool, true, false, cond, not}
+use mathlib.Core.Bool.{Bool, true, false, cond, not, _&&_}
 use mathlib.Core.List.{List, [], _∷_}
 use lib.Dec.{eqb, leb}
-use lib.ListN.{length, take}
-use Rattle.answer.specs.Answer.{Outcome, refused, accepted, refuseIf}
-use Rattle.message.specs.declared.typed.Encoded.{Encoded}
+use lib.ListN.{length}
+use Rattle.answer.specs.Answer.{Outcome, refuseIf}
+use Rattle.link.specs.Frame.{Frame}
 use Rattle.message.specs.Message.{Message, fixed, zoneStatus, events, messageStatus, writeMessage}
 use Rattle.message.specs.declared.items.Condition.{Condition}
 use Rattle.message.specs.declared.items.Condition.the-variants as Condition
@@ -25,101 +25,55 @@ use Rattle.message.specs.declared.command.Duration.the-variants.{None, S
 use Rattle.message.specs.declared.command.Command.{Command}
 use Rattle.message.specs.declared.command.Command.the-variants.{Off, On, AllOff, AllOn, Level, Decrement, Increment, SetCounter}
 
--- a count from 1 to a largest
-abbrev pub listed : ℕ → ℕ → Bool
-listed n most = cond (eqb n 0) false (leb n most)
+-- the P1 of a count from 1 to a largest, above a base; a count outside has none: 100, which is no P1, so that the writer answers 8
+abbrev pub countP1 : ℕ → ℕ → ℕ → ℕ
+countP1 base most n = cond (leb 1 n && leb n most) (base + n) 100
 
--- the durations that have a P1: 1-99 seconds, 1-99 minutes, 1-18 hours
-abbrev pub durationFits : Duration → Bool
-durationFits None = true
-durationFits (Seconds n) = listed n 99
-durationFits (Minutes n) = listed n 99
-durationFits (Hours n) = listed n 18
-
--- their P1
+-- the P1 of a duration: 1-99 seconds, 1-99 minutes, 1-18 hours
 abbrev pub durationP1 : Duration → ℕ
 durationP1 None = 0
-durationP1 (Seconds n) = n
-durationP1 (Minutes n) = (100 + n) % 256
-durationP1 (Hours n) = (200 + n) % 256
-
-abbrev pub commandFits : Command → Bool
-commandFits (Off d unit) = durationFits d
-commandFits (On d unit) = durationFits d
-commandFits (AllOff area) = true
-commandFits (AllOn area) = true
-commandFits (Level percent unit) = true
-commandFits (Decrement counter) = true
-commandFits (Increment counter) = true
-commandFits (SetCounter v counter) = true
-
-abbrev pub encoded4 : ℕ → ℕ → ℕ → ℕ → ℕ → Encoded
-encoded4 kind a b c d = record { kind = kind; count = 4; bytes = a ∷ b ∷ c ∷ d ∷ 0 ∷ 0 ∷ 0 ∷ 0 ∷ 0 ∷ 0 ∷ [] }
-
-abbrev pub encoded2 : ℕ → ℕ → ℕ → Encoded
-encoded2 kind a b = record { kind = kind; count = 2; bytes = a ∷ b ∷ 0 ∷ 0 ∷ 0 ∷ 0 ∷ 0 ∷ 0 ∷ 0 ∷ 0 ∷ [] }
-
-abbrev pub encoded0 : ℕ → Encoded
-encoded0 kind = record { kind = kind; count = 0; bytes = 0 ∷ 0 ∷ 0 ∷ 0 ∷ 0 ∷ 0 ∷ 0 ∷ 0 ∷ 0 ∷ 0 ∷ [] }
+durationP1 (Seconds n) = countP1 0 99 n
+durationP1 (Minutes n) = countP1 100 99 n
+durationP1 (Hours n) = countP1 200 18 n
 
 -- command, P1, P2 high, P2 low
-abbrev pub encodedParameters : ℕ → ℕ → ℕ → Encoded
-encodedParameters number p1 p2 = encoded4 0x0F number p1 (p2 / 256) (p2 % 256)
+abbrev pub parameters : ℕ → ℕ → ℕ → List ℕ
+parameters number p1 p2 = number ∷ p1 ∷ p2 / 256 ∷ p2 % 256 ∷ []
 
-abbrev pub encodedCommand : Command → Encoded
-encodedCommand (Off d unit) = encodedParameters 0 (durationP1 d) unit
-encodedCommand (On d unit) = encodedParameters 1 (durationP1 d) unit
-encodedCommand (AllOff area) = encodedParameters 2 0 area
-encodedCommand (AllOn area) = encodedParameters 3 0 area
-encodedCommand (Level percent unit) = encodedParameters 9 percent unit
-encodedCommand (Decrement counter) = encodedParameters 10 0 counter
-encodedCommand (Increment counter) = encodedParameters 11 0 counter
-encodedCommand (SetCounter v counter) = encodedParameters 12 v counter
+-- a command's data bytes
+abbrev pub commandBytes : Command → List ℕ
+commandBytes (Off d unit) = parameters 0 (durationP1 d) unit
+commandBytes (On d unit) = parameters 1 (durationP1 d) unit
+commandBytes (AllOff area) = parameters 2 0 area
+commandBytes (AllOn area) = parameters 3 0 area
+commandBytes (Level percent unit) = parameters 9 percent unit
+commandBytes (Decrement counter) = parameters 10 0 counter
+commandBytes (Increment counter) = parameters 11 0 counter
+commandBytes (SetCounter v counter) = parameters 12 v counter
 
--- the log entry's ten data bytes
-abbrev pub encodedLog : LogEntry → Encoded
-encodedLog e =
-    record {
-      kind = 0x0E;
-      count = 10;
-      bytes =
-          e .number ∷ e .«time_valid» ∷ e .month ∷ e .day ∷ e .hour ∷ e .minute ∷ e .«event_type» ∷ e .«parameter_1»
-          ∷ e .«parameter_2» / 256 ∷ e .«parameter_2» % 256 ∷ [];
-    }
+-- a log entry's ten data bytes
+abbrev pub logBytes : LogEntry → List ℕ
+logBytes e =
+    e .number ∷ e .«time_valid» ∷ e .month ∷ e .day ∷ e .hour ∷ e .minute ∷ e .«event_type» ∷ e .«parameter_1»
+    ∷ e .«parameter_2» / 256 ∷ e .«parameter_2» % 256 ∷ []
 
 -- the type and the data bytes of a message of fixed length
-abbrev pub encodedFixed : Fixed → Encoded
-encodedFixed F.Acknowledge = encoded0 0x05
-encodedFixed F.NegativeAcknowledge = encoded0 0x06
-encodedFixed F.UploadEventLog = encoded0 0x0D
-encodedFixed F.RequestSystemInformation = encoded0 0x11
-encodedFixed F.RequestSystemStatus = encoded0 0x13
-encodedFixed F.Logout = encoded0 0x21
-encodedFixed F.RequestSystemEvents = encoded0 0x22
-encodedFixed (F.Login a b c d) = encoded4 0x20 a b c d
-encodedFixed (F.ZoneRequest a b) = encoded2 0x15 a b
-encodedFixed (F.LogEntry e) = encodedLog e
-encodedFixed (F.Command c) = encodedCommand c
+abbrev pub fixedFrame : Fixed → Frame
+fixedFrame F.Acknowledge = record { kind = 0x05; bytes = [] }
+fixedFrame F.NegativeAcknowledge = record { kind = 0x06; bytes = [] }
+fixedFrame F.UploadEventLog = record { kind = 0x0D; bytes = [] }
+fixedFrame F.RequestSystemInformation = record { kind = 0x11; bytes = [] }
+fixedFrame F.RequestSystemStatus = record { kind = 0x13; bytes = [] }
+fixedFrame F.Logout = record { kind = 0x21; bytes = [] }
+fixedFrame F.RequestSystemEvents = record { kind = 0x22; bytes = [] }
+fixedFrame (F.Login a b c d) = record { kind = 0x20; bytes = a ∷ b ∷ c ∷ d ∷ [] }
+fixedFrame (F.ZoneRequest first last) = record { kind = 0x15; bytes = first ∷ last ∷ [] }
+fixedFrame (F.LogEntry e) = record { kind = 0x0E; bytes = logBytes e }
+fixedFrame (F.Command c) = record { kind = 0x0F; bytes = commandBytes c }
 
-abbrev pub fixedFits : Fixed → Bool
-fixedFits F.Acknowledge = true
-fixedFits F.NegativeAcknowledge = true
-fixedFits F.UploadEventLog = true
-fixedFits F.RequestSystemInformation = true
-fixedFits F.RequestSystemStatus = true
-fixedFits F.Logout = true
-fixedFits F.RequestSystemEvents = true
-fixedFits (F.Login a b c d) = true
-fixedFits (F.ZoneRequest a b) = true
-fixedFits (F.LogEntry e) = true
-fixedFits (F.Command c) = commandFits c
-
-abbrev pub dataOf : Encoded → List ℕ
-dataOf e = take (e .count) (e .bytes)
-
--- writing a message of fixed length: 8 for a duration outside its list, then as on a type and data bytes
+-- writing a message of fixed length
 unfoldable pub writeFixed : Fixed → Outcome (List ℕ)
-writeFixed f = refuseIf (not (fixedFits f)) 8 (writeMessage (encodedFixed f .kind) (dataOf (encodedFixed f)))
+writeFixed f = writeMessage (fixedFrame f .kind) (fixedFrame f .bytes)
 
 -- writing a list of so many data bytes
 unfoldable pub writeItems : ℕ → ℕ → List ℕ → Outcome (List ℕ)

@@ -68,7 +68,7 @@ fn command_listed(number: u8, p1: u8, p2: u16) -> bool
     if number == 3 {
         return p1 == 0;
     }
-    if p2 == 0 {
+    if p2 < 1 {
         return false;
     }
     if number < 2 {

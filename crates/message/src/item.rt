@@ -6,16 +6,18 @@ use crate::items::Zone;
 use crate::log::LogEntry;
 use crate::log::LogRead;
 use crate::message;
+use crate::message::MessageRead;
 use answer::Refusal;
 use link::frame::FrameRead;
 ghost use mathlib.Core.Path.{_≡_};
 ghost use lib.ListN.{drop};
-ghost use Rattle.answer.specs.Answer.{andThen};
+ghost use Rattle.answer.specs.Answer.{andThen, onAccepted};
+ghost use Rattle.link.specs.Frame.{header, outcomeOf};
 ghost use Rattle.message.specs.Command.{commandRead};
+ghost use Rattle.message.specs.Items.{zones, words, texts};
 ghost use Rattle.message.specs.Log.{readLog};
-ghost use Rattle.message.specs.Items.{zones, words, texts, twoBits};
-ghost use Rattle.message.specs.Item.{itemAt, zoneItem, eventItem, textItem, logField, logItem, commandItem, zoneRead, wordRead, textRead};
-ghost use Rattle.message.specs.Message.{readMessage};
+ghost use Rattle.message.specs.Parts.{headerOf, twoBits};
+ghost use Rattle.message.specs.Item.{frameOf, itemAt, zoneItem, eventItem, textItem, logFields, logItem, commandItem, zoneRead, wordRead, textRead};
 
 pub enum ZoneRead {
     Accepted(Zone),
@@ -84,41 +86,28 @@ pub fn text_at(data: &[u8], i: usize) -> TextRead
 
 // Field i of a log entry, in the paper's order, parameter 2 as one; past the last is 8.
 fn log_field(e: LogEntry, i: usize) -> WordRead
-    ensures { λ r. ⌜ wordRead r ≡ logField e i ⌝ }
+    ensures { λ r. ⌜ wordRead r ≡ itemAt (logFields e) i ⌝ }
 {
-    if i == 0 {
-        return WordRead::Accepted(e.number as u16);
+    let fields = [
+        e.number as u16,
+        e.time_valid as u16,
+        e.month as u16,
+        e.day as u16,
+        e.hour as u16,
+        e.minute as u16,
+        e.event_type as u16,
+        e.parameter_1 as u16,
+        e.parameter_2,
+    ];
+    if 9 <= i {
+        return WordRead::Refused(Refusal::Field);
     }
-    if i == 1 {
-        return WordRead::Accepted(e.time_valid as u16);
-    }
-    if i == 2 {
-        return WordRead::Accepted(e.month as u16);
-    }
-    if i == 3 {
-        return WordRead::Accepted(e.day as u16);
-    }
-    if i == 4 {
-        return WordRead::Accepted(e.hour as u16);
-    }
-    if i == 5 {
-        return WordRead::Accepted(e.minute as u16);
-    }
-    if i == 6 {
-        return WordRead::Accepted(e.event_type as u16);
-    }
-    if i == 7 {
-        return WordRead::Accepted(e.parameter_1 as u16);
-    }
-    if i == 8 {
-        return WordRead::Accepted(e.parameter_2);
-    }
-    WordRead::Refused(Refusal::Field)
+    WordRead::Accepted(fields[i])
 }
 
 // Field i of the log entry that data bytes carry.
 fn log_field_at(data: &[u8], i: usize) -> WordRead
-    ensures { λ r. ⌜ wordRead r ≡ andThen (readLog (now («data» .entry))) (λ e. logField e i) ⌝ }
+    ensures { λ r. ⌜ wordRead r ≡ andThen (readLog (now («data» .entry))) (λ e. itemAt (logFields e) i) ⌝ }
 {
     match crate::log::read(data) {
         LogRead::Accepted(e) => log_field(e, i),
@@ -126,87 +115,81 @@ fn log_field_at(data: &[u8], i: usize) -> WordRead
     }
 }
 
+// A header of the type that is asked for; another type is 6.
+fn of_kind(wanted: u8, kind: u8, count: u8) -> FrameRead
+    ensures { λ r. ⌜ outcomeOf r ≡ headerOf wanted kind count ⌝ }
+{
+    if kind != wanted {
+        return FrameRead::Refused(Refusal::Unknown);
+    }
+    FrameRead::Accepted { kind, count }
+}
+
+// The header of a whole message of a type.
+fn header_of(bytes: &[u8], wanted: u8) -> FrameRead
+    ensures { λ r. ⌜ outcomeOf r ≡ onAccepted header (frameOf wanted (now (bytes .entry))) ⌝ }
+{
+    match link::frame::read(bytes) {
+        FrameRead::Accepted { kind, count } => match message::of_data(
+            kind,
+            link::frame::data(bytes, count),
+        ) {
+            MessageRead::Accepted(_) => of_kind(wanted, kind, count),
+            MessageRead::Refused(r) => FrameRead::Refused(r),
+        },
+        FrameRead::Refused(r) => FrameRead::Refused(r),
+    }
+}
+
 // Zone i of a zone status.
 pub fn zone(bytes: &[u8], i: usize) -> ZoneRead
-    ensures { λ r. ⌜ zoneRead r ≡ andThen (readMessage (now (bytes .entry))) (zoneItem i) ⌝ }
+    ensures { λ r. ⌜ zoneRead r ≡ zoneItem i (now (bytes .entry)) ⌝ }
 {
-    match message::kind_and_count(bytes) {
-        FrameRead::Accepted { kind, count } => {
-            if kind == 0x16 {
-                return zone_at(link::frame::data(bytes, count), i);
-            }
-            return ZoneRead::Refused(Refusal::Unknown);
-        }
-        FrameRead::Refused(r) => {
-            return ZoneRead::Refused(r);
-        }
+    match header_of(bytes, 0x16) {
+        FrameRead::Accepted { kind: _, count } => zone_at(link::frame::data(bytes, count), i),
+        FrameRead::Refused(r) => ZoneRead::Refused(r),
     }
 }
 
 // Event i of a list of events.
 pub fn event(bytes: &[u8], i: usize) -> WordRead
-    ensures { λ r. ⌜ wordRead r ≡ andThen (readMessage (now (bytes .entry))) (eventItem i) ⌝ }
+    ensures { λ r. ⌜ wordRead r ≡ eventItem i (now (bytes .entry)) ⌝ }
 {
-    match message::kind_and_count(bytes) {
-        FrameRead::Accepted { kind, count } => {
-            if kind == 0x23 {
-                return event_at(link::frame::data(bytes, count), i);
-            }
-            return WordRead::Refused(Refusal::Unknown);
-        }
-        FrameRead::Refused(r) => {
-            return WordRead::Refused(r);
-        }
+    match header_of(bytes, 0x23) {
+        FrameRead::Accepted { kind: _, count } => event_at(link::frame::data(bytes, count), i),
+        FrameRead::Refused(r) => WordRead::Refused(r),
     }
 }
 
 // Text message i of a message status.
 pub fn text_message(bytes: &[u8], i: usize) -> TextRead
-    ensures { λ r. ⌜ textRead r ≡ andThen (readMessage (now (bytes .entry))) (textItem i) ⌝ }
+    ensures { λ r. ⌜ textRead r ≡ textItem i (now (bytes .entry)) ⌝ }
 {
-    match message::kind_and_count(bytes) {
-        FrameRead::Accepted { kind, count } => {
-            if kind == 0x25 {
-                return text_at(link::frame::data(bytes, count), i);
-            }
-            return TextRead::Refused(Refusal::Unknown);
-        }
-        FrameRead::Refused(r) => {
-            return TextRead::Refused(r);
-        }
+    match header_of(bytes, 0x25) {
+        FrameRead::Accepted { kind: _, count } => text_at(link::frame::data(bytes, count), i),
+        FrameRead::Refused(r) => TextRead::Refused(r),
     }
 }
 
 // Field i of a log entry.
 pub fn log_entry(bytes: &[u8], i: usize) -> WordRead
-    ensures { λ r. ⌜ wordRead r ≡ andThen (readMessage (now (bytes .entry))) (logItem i) ⌝ }
+    ensures { λ r. ⌜ wordRead r ≡ logItem i (now (bytes .entry)) ⌝ }
 {
-    match message::kind_and_count(bytes) {
-        FrameRead::Accepted { kind, count } => {
-            if kind == 0x0E {
-                return log_field_at(link::frame::data(bytes, count), i);
-            }
-            return WordRead::Refused(Refusal::Unknown);
-        }
-        FrameRead::Refused(r) => {
-            return WordRead::Refused(r);
-        }
+    match header_of(bytes, 0x0E) {
+        FrameRead::Accepted { kind: _, count } => log_field_at(link::frame::data(bytes, count), i),
+        FrameRead::Refused(r) => WordRead::Refused(r),
     }
 }
 
 // The command of a command message.
 pub fn command(bytes: &[u8]) -> CommandRead
-    ensures { λ r. ⌜ commandRead r ≡ andThen (readMessage (now (bytes .entry))) commandItem ⌝ }
+    ensures { λ r. ⌜ commandRead r ≡ commandItem (now (bytes .entry)) ⌝ }
 {
-    match message::kind_and_count(bytes) {
-        FrameRead::Accepted { kind, count } => {
-            if kind == 0x0F {
-                return crate::command::read(link::frame::data(bytes, count));
-            }
-            return CommandRead::Refused(Refusal::Unknown);
-        }
-        FrameRead::Refused(r) => {
-            return CommandRead::Refused(r);
-        }
+    match header_of(bytes, 0x0F) {
+        FrameRead::Accepted { kind: _, count } => crate::command::read(link::frame::data(
+            bytes,
+            count,
+        )),
+        FrameRead::Refused(r) => CommandRead::Refused(r),
     }
 }

@@ -27,13 +27,13 @@ pub enum LogRead {
 fn calendar_listed(month: u8, day: u8, hour: u8, minute: u8) -> bool
     ensures { λ r. ⌜ r ≡ calendarListed month day hour minute ⌝ }
 {
-    if month == 0 {
+    if month < 1 {
         return false;
     }
     if 12 < month {
         return false;
     }
-    if day == 0 {
+    if day < 1 {
         return false;
     }
     if 31 < day {
@@ -42,14 +42,14 @@ fn calendar_listed(month: u8, day: u8, hour: u8, minute: u8) -> bool
     if 23 < hour {
         return false;
     }
-    minute < 60
+    minute <= 59
 }
 
 // Whether the fields of an entry are in their lists.
 fn log_listed(e: LogEntry) -> bool
     ensures { λ r. ⌜ r ≡ logListed e ⌝ }
 {
-    if e.number == 0 {
+    if e.number < 1 {
         return false;
     }
     if e.time_valid == 0 {

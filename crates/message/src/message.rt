@@ -13,10 +13,10 @@ ghost use Prim.Native.Nat.{_%_, _≤_};
 ghost use lib.Dec.{eqb};
 ghost use lib.ListN.{length, getD};
 ghost use Rattle.answer.specs.Answer.{accepted, refuseIf, onAccepted, inRoom, outAfter, writtenOf};
-ghost use Rattle.link.specs.Frame.{outcomeOf};
-ghost use Rattle.message.specs.Item.{messageHeader};
+ghost use Rattle.message.specs.Command.{readCommand};
 ghost use Rattle.message.specs.Items.{zonesListed};
-ghost use Rattle.message.specs.Message.{plainListed, plainOf, digitsListed, orderListed, readPlain, readLogin, readZoneRequest, readZoneStatus, readEvents, readMessageStatus, logMessage, commandMessage, messageOf, readMessage, writeMessage, counted, messageRead};
+ghost use Rattle.message.specs.Log.{readLog};
+ghost use Rattle.message.specs.Message.{plainListed, plainOf, digitsListed, orderListed, readPlain, readLogin, readZoneRequest, readZoneStatus, readEvents, readMessageStatus, messageOf, readMessage, writeMessage, counted, messageRead};
 
 // The messages of fixed length: those without data (05, 06, 0D, 11, 13, 21, 22), 20, 15, 0E and 0F.
 pub enum Fixed {
@@ -153,7 +153,7 @@ fn login(data: &[u8]) -> MessageRead
 fn order_listed(first: u8, last: u8) -> bool
     ensures { λ r. ⌜ r ≡ orderListed first last ⌝ }
 {
-    if first == 0 {
+    if first < 1 {
         return false;
     }
     first <= last
@@ -252,7 +252,7 @@ fn message_status(data: &[u8]) -> MessageRead
 }
 
 fn log_entry(data: &[u8]) -> MessageRead
-    ensures { λ r. ⌜ messageRead r ≡ onAccepted counted (logMessage (now («data» .entry))) ⌝ }
+    ensures { λ r. ⌜ messageRead r ≡ onAccepted (λ e. Message.Fixed (Fixed.LogEntry e)) (readLog (now («data» .entry))) ⌝ }
 {
     match crate::log::read(data) {
         LogRead::Accepted(entry) => MessageRead::Accepted(Message::Fixed(Fixed::LogEntry(entry))),
@@ -261,7 +261,7 @@ fn log_entry(data: &[u8]) -> MessageRead
 }
 
 fn command(data: &[u8]) -> MessageRead
-    ensures { λ r. ⌜ messageRead r ≡ onAccepted counted (commandMessage (now («data» .entry))) ⌝ }
+    ensures { λ r. ⌜ messageRead r ≡ onAccepted (λ c. Message.Fixed (Fixed.Command c)) (readCommand (now («data» .entry))) ⌝ }
 {
     match crate::command::read(data) {
         CommandRead::Accepted(c) => MessageRead::Accepted(Message::Fixed(Fixed::Command(c))),
@@ -318,21 +318,5 @@ pub fn write(kind: u8, data: &[u8], out: &mut [u8]) -> Written
     match of_data(kind, data) {
         MessageRead::Accepted(_) => link::frame::write(kind, data, out),
         MessageRead::Refused(r) => Written::Refused(r),
-    }
-}
-
-// The type and the count of data bytes of a whole message, for a reader of its items.
-pub(crate) fn kind_and_count(bytes: &[u8]) -> FrameRead
-    ensures { λ r. ⌜ outcomeOf r ≡ messageHeader (now (bytes .entry)) ⌝ }
-{
-    match link::frame::read(bytes) {
-        FrameRead::Accepted { kind, count } => match of_data(
-            kind,
-            link::frame::data(bytes, count),
-        ) {
-            MessageRead::Accepted(_) => FrameRead::Accepted { kind, count },
-            MessageRead::Refused(r) => FrameRead::Refused(r),
-        },
-        FrameRead::Refused(r) => FrameRead::Refused(r),
     }
 }

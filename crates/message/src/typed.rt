@@ -8,10 +8,12 @@ use crate::message::Message;
 use answer::Refusal;
 use answer::Written;
 ghost use mathlib.Core.Path.{_≡_};
-ghost use Prim.Native.Nat.{_+_, _/_, _%_};
+ghost use mathlib.Core.List.{[], _∷_};
+ghost use Prim.Native.Nat.{_+_, _≤_};
 ghost use lib.ListN.{length};
 ghost use Rattle.answer.specs.Answer.{onAccepted, inRoom, outAfter, writtenOf};
-ghost use Rattle.message.specs.Typed.{listed, encoded4, durationFits, durationP1, commandFits, fixedFits, encoded0, encoded2, encodedLog, encodedCommand, encodedFixed, writeFixed, writeCounted, writeItems};
+ghost use Rattle.message.specs.Parts.{encoded};
+ghost use Rattle.message.specs.Typed.{countP1, durationP1, parameters, commandBytes, logBytes, fixedFrame, writeFixed, writeCounted, writeItems};
 
 // A message of fixed length as its type and data bytes, the first `count` of `bytes`.
 pub struct Encoded {
@@ -20,69 +22,34 @@ pub struct Encoded {
     pub bytes: [u8; 10],
 }
 
-fn in_range(n: u8, most: u8) -> bool
-    ensures { λ r. ⌜ r ≡ listed n most ⌝ }
+// The P1 of a count from 1 to `most`, above a base; outside 100, which is no P1.
+fn count_p1(base: u8, most: u8, n: u8) -> u8
+    requires { ⌜ base + most ≤ 255 ⌝ }
+    ensures { λ r. ⌜ r ≡ countP1 base most n ⌝ }
 {
-    if n == 0 {
-        return false;
+    if n < 1 {
+        return 100;
     }
-    n <= most
-}
-
-// Whether a duration has a P1: 1 to 99 seconds or minutes, 1 to 18 hours.
-fn duration_fits(d: Duration) -> bool
-    ensures { λ r. ⌜ r ≡ durationFits d ⌝ }
-{
-    match d {
-        Duration::None => true,
-        Duration::Seconds(n) => in_range(n, 99),
-        Duration::Minutes(n) => in_range(n, 99),
-        Duration::Hours(n) => in_range(n, 18),
+    if most < n {
+        return 100;
     }
+    base + n
 }
 
-// A count above a base, modulo 256.
-fn above(base: u8, n: u8) -> u8
-    ensures { λ r. ⌜ r ≡ (base + n) % 256 ⌝ }
-{
-    ((base as u16 + n as u16) % 256) as u8
-}
-
-// The P1 of a duration that has one.
+// The P1 of a duration: 1 to 99 seconds or minutes, 1 to 18 hours.
 fn duration_p1(d: Duration) -> u8
     ensures { λ r. ⌜ r ≡ durationP1 d ⌝ }
 {
     match d {
         Duration::None => 0,
-        Duration::Seconds(n) => n,
-        Duration::Minutes(n) => above(100, n),
-        Duration::Hours(n) => above(200, n),
-    }
-}
-
-fn command_fits(c: Command) -> bool
-    ensures { λ r. ⌜ r ≡ commandFits c ⌝ }
-{
-    match c {
-        Command::Off { duration, unit: _ } => duration_fits(duration),
-        Command::On { duration, unit: _ } => duration_fits(duration),
-        Command::AllOff { area: _ } => true,
-        Command::AllOn { area: _ } => true,
-        Command::Level {
-            percent: _,
-            unit: _,
-        } => true,
-        Command::Decrement { counter: _ } => true,
-        Command::Increment { counter: _ } => true,
-        Command::SetCounter {
-            value: _,
-            counter: _,
-        } => true,
+        Duration::Seconds(n) => count_p1(0, 99, n),
+        Duration::Minutes(n) => count_p1(100, 99, n),
+        Duration::Hours(n) => count_p1(200, 18, n),
     }
 }
 
 fn encoded_4(kind: u8, a: u8, b: u8, c: u8, d: u8) -> Encoded
-    ensures { λ r. ⌜ r ≡ encoded4 kind a b c d ⌝ }
+    ensures { λ r. ⌜ r ≡ encoded kind (a ∷ b ∷ c ∷ d ∷ []) ⌝ }
 {
     Encoded {
         kind,
@@ -92,13 +59,13 @@ fn encoded_4(kind: u8, a: u8, b: u8, c: u8, d: u8) -> Encoded
 }
 
 fn encoded_parameters(number: u8, p1: u8, p2: u16) -> Encoded
-    ensures { λ r. ⌜ r ≡ encoded4 0x0F number p1 (p2 / 256) (p2 % 256) ⌝ }
+    ensures { λ r. ⌜ r ≡ encoded 0x0F (parameters number p1 p2) ⌝ }
 {
     encoded_4(0x0F, number, p1, (p2 / 256) as u8, (p2 % 256) as u8)
 }
 
 fn encoded_command(c: Command) -> Encoded
-    ensures { λ r. ⌜ r ≡ encodedCommand c ⌝ }
+    ensures { λ r. ⌜ r ≡ encoded 0x0F (commandBytes c) ⌝ }
 {
     match c {
         Command::Off { duration, unit } => encoded_parameters(0, duration_p1(duration), unit),
@@ -113,7 +80,7 @@ fn encoded_command(c: Command) -> Encoded
 }
 
 fn encoded_0(kind: u8) -> Encoded
-    ensures { λ r. ⌜ r ≡ encoded0 kind ⌝ }
+    ensures { λ r. ⌜ r ≡ encoded kind [] ⌝ }
 {
     Encoded {
         kind,
@@ -123,7 +90,7 @@ fn encoded_0(kind: u8) -> Encoded
 }
 
 fn encoded_2(kind: u8, a: u8, b: u8) -> Encoded
-    ensures { λ r. ⌜ r ≡ encoded2 kind a b ⌝ }
+    ensures { λ r. ⌜ r ≡ encoded kind (a ∷ b ∷ []) ⌝ }
 {
     Encoded {
         kind,
@@ -133,7 +100,7 @@ fn encoded_2(kind: u8, a: u8, b: u8) -> Encoded
 }
 
 fn encoded_log(e: LogEntry) -> Encoded
-    ensures { λ r. ⌜ r ≡ encodedLog e ⌝ }
+    ensures { λ r. ⌜ r ≡ encoded 0x0E (logBytes e) ⌝ }
 {
     let hi = (e.parameter_2 / 256) as u8;
     let lo = (e.parameter_2 % 256) as u8;
@@ -156,7 +123,7 @@ fn encoded_log(e: LogEntry) -> Encoded
 }
 
 fn encoded_fixed(f: Fixed) -> Encoded
-    ensures { λ r. ⌜ r ≡ encodedFixed f ⌝ }
+    ensures { λ r. ⌜ r ≡ encoded (fixedFrame f .kind) (fixedFrame f .bytes) ⌝ }
 {
     match f {
         Fixed::Acknowledge => encoded_0(0x05),
@@ -178,41 +145,15 @@ fn encoded_fixed(f: Fixed) -> Encoded
     }
 }
 
-fn fits(f: Fixed) -> bool
-    ensures { λ r. ⌜ r ≡ fixedFits f ⌝ }
-{
-    match f {
-        Fixed::Acknowledge => true,
-        Fixed::NegativeAcknowledge => true,
-        Fixed::UploadEventLog => true,
-        Fixed::RequestSystemInformation => true,
-        Fixed::RequestSystemStatus => true,
-        Fixed::Logout => true,
-        Fixed::RequestSystemEvents => true,
-        Fixed::Login {
-            first: _,
-            second: _,
-            third: _,
-            fourth: _,
-        } => true,
-        Fixed::ZoneRequest { first: _, last: _ } => true,
-        Fixed::LogEntry(_) => true,
-        Fixed::Command(c) => command_fits(c),
-    }
-}
-
 // Writes a message of fixed length: 8 for a field outside its list, then 9.
 pub fn write_fixed(f: Fixed, out: &mut [u8]) -> Written
     ensures { λ r. ⌜ writtenOf r ≡ onAccepted length (inRoom (length (now (out .entry))) (writeFixed f)) ⌝ }
     ensures { λ _. ⌜ now (out .exit) ≡ outAfter (inRoom (length (now (out .entry))) (writeFixed f)) (now (out .entry)) ⌝ }
 {
-    if fits(f) {
-        let e = encoded_fixed(f);
-        let bytes = e.bytes;
-        let count = e.count;
-        return message::write(e.kind, &bytes[..count], out);
-    }
-    Written::Refused(Refusal::Field)
+    let e = encoded_fixed(f);
+    let bytes = e.bytes;
+    let count = e.count;
+    message::write(e.kind, &bytes[..count], out)
 }
 
 // Writes a list's message of so many data bytes, which are lent; another number of them is 7.

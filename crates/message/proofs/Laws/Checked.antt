@@ -1,8 +1,12 @@
 -- A check by a test that the code worked out. Assumes nothing.
 use mathlib.Core.Path.{_≡_, refl, sym, ap, _∙_}
-use mathlib.Core.Bool.{Bool, true, false, not}
+use mathlib.Core.Bool.{Bool, true, false, not, cond, _&&_}
+use mathlib.Core.List.{List}
 use Prim.Native.Nat.{ℕ}
 use native.Mathlib.Omega.{arith}
+use lib.Dec.{eqb}
+use lib.ListN.{length}
+use borrow.Author.Tests.{eq-eqb}
 use Rattle.answer.specs.Answer.{Outcome, refused, accepted, refuseIf, onAccepted}
 
 module _ {A : Type 0} (n : ℕ) (later : Outcome A) {t listed : Bool} (is : t ≡ listed) where
@@ -11,6 +15,17 @@ module _ {A : Type 0} (n : ℕ) (later : Outcome A) {t listed : Bool} (is : t �
 
   pub passes : t ≡ true → later ≡ refuseIf (not listed) n later
   passes e = ap (λ (b : Bool). refuseIf (not b) n later) (sym e ∙ is)
+
+-- a reader of so many data bytes whose fields are tested
+module _ {A B : Type 0} (f : A → B) (d : List ℕ) (size : ℕ) (a : A) (right : length d ≡ size) {t listed : Bool} (is : t ≡ listed) where
+  behind-size : refuseIf (not listed) 8 (accepted a) ≡ refuseIf (not (eqb (length d) size)) 7 (refuseIf (not listed) 8 (accepted a))
+  behind-size = passes 7 (refuseIf (not listed) 8 (accepted a)) refl (eq-eqb (length d) size right)
+
+  pub fields-refused : t ≡ false → refused 8 ≡ onAccepted f (refuseIf (not (eqb (length d) size)) 7 (refuseIf (not listed) 8 (accepted a)))
+  fields-refused e = ap (onAccepted f) (refuses 8 (accepted a) is e ∙ behind-size)
+
+  pub fields-taken : t ≡ true → accepted (f a) ≡ onAccepted f (refuseIf (not (eqb (length d) size)) 7 (refuseIf (not listed) 8 (accepted a)))
+  fields-taken e = ap (onAccepted f) (passes 8 (accepted a) is e ∙ behind-size)
 
 -- what is done of what is accepted may be done behind the check
 pub behind-check : {A B : Type 0} (f : A → B) (t : Bool) (n : ℕ) (later : Outcome A)
@@ -27,3 +42,12 @@ was-accepted f (accepted a) b e = (a, refl, cc)
 pub was-refused : {A B : Type 0} (f : A → B) (o : Outcome A) (n : ℕ) → refused n ≡ onAccepted f o → o ≡ refused n
 was-refused f (refused m) n e = cc
 was-refused f (accepted a) n e = let z : _≡_ {A = ℕ} 0 1 = cc in let no : ⊥ = omega arith in absurd no
+
+-- nothing follows from a test that fails and holds
+pub never : {G : Type 0} → _≡_ {A = Bool} false true → G
+never e = let z : _≡_ {A = ℕ} 0 1 = ap (λ t. cond t 1 0) e in let nothing : ⊥ = omega arith in absurd nothing
+
+-- where two tests hold together, each holds
+pub both : {a b : Bool} → (a && b) ≡ true → (a ≡ true) × (b ≡ true)
+both {a = true} e = (refl, e)
+both {a = false} e = never e

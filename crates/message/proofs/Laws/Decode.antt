@@ -1,20 +1,20 @@
 -- What is encoded is decoded to itself: of each typed message the data bytes carry it. Assumes nothing.
 use mathlib.Core.Path.{_≡_, refl, sym, ap, ap₂, _∙_}
-use mathlib.Core.Bool.{Bool, true, false, not, cond}
+use mathlib.Core.Bool.{Bool, true, false, not}
 use mathlib.Core.List.{List, [], _∷_}
-use Prim.Native.Nat.{ℕ, suc, _+_, _*_, _/_, _%_, _<_}
+use Prim.Native.Nat.{ℕ, _+_, _*_, _/_, _%_, _<_}
 use native.Mathlib.Nat.{div-add-mod'}
 use native.Mathlib.Omega.{arith}
-use lib.Dec.{eqb}
+use lib.Dec.{eqb, leb}
 use lib.ListN.{length}
-use borrow.Author.Tests.{eq-eqb, ne-eqb, eqb-true}
-use Rattle.answer.specs.Answer.{Outcome, refused, accepted, refuseIf, onAccepted}
+use borrow.Author.Tests.{eq-eqb, ne-eqb, not-false}
+use Rattle.answer.specs.Answer.{accepted}
 use Rattle.answer.proofs.Laws.Test.{passed}
-use Rattle.message.specs.Command.{durationOf, durationListed, commandListed, commandOf, checkedCommand, readCommand}
-use Rattle.message.specs.Items.{conditionOf, latchedOf, armingOf, zoneOf, textOf, twoBits, zones, words, texts, wordOf}
+use Rattle.message.specs.Command.{commandListed, commandOf, checkedCommand, readCommand}
+use Rattle.message.specs.Items.{conditionOf, latchedOf, armingOf, zoneOf, textOf, zones, words, texts}
 use Rattle.message.specs.Log.{logListed, logOf, readLog}
-use Rattle.message.specs.Message.{Message, fixed, digitsListed, orderListed, plainListed, plainOf, readPlain, readLogin, readZoneRequest, logMessage, commandMessage, messageOf}
-use Rattle.message.specs.Typed.{durationFits, durationP1, commandFits, fixedFits, encodedCommand, encodedFixed, encodedLog, encodedParameters, dataOf, conditionBits, latchedBits, armingBits, flag, statusByte, zoneBytes, eventBytes, textBits, textBytes}
+use Rattle.message.specs.Message.{Message, fixed, digitsListed, orderListed, plainListed, plainOf, readPlain, readLogin, readZoneRequest, messageOf}
+use Rattle.message.specs.Typed.{durationP1, parameters, commandBytes, logBytes, fixedFrame, conditionBits, latchedBits, armingBits, flag, statusByte, zoneBytes, eventBytes, textBits, textBytes}
 use Rattle.message.specs.declared.command.Duration.{Duration}
 use Rattle.message.specs.declared.command.Command.{Command}
 use Rattle.message.specs.declared.command.Command.the-variants.{Off, On, AllOff, AllOn, Level, Decrement, Increment, SetCounter}
@@ -29,45 +29,40 @@ use Rattle.message.specs.declared.items.Zone.{Zone}
 use Rattle.message.specs.declared.items.TextMessage.{TextMessage}
 use Rattle.message.specs.declared.message.Fixed.{Fixed}
 use Rattle.message.specs.declared.message.Fixed.the-variants as F
-use Rattle.message.proofs.Laws.Checked.{was-accepted}
+use Rattle.message.proofs.Laws.Checked.{was-accepted, both}
 use Rattle.message.proofs.Laws.Duration.{duration-after-p1}
 
 -- ---- commands
 
 -- what a number and its parameters are read as, P2 in two bytes
-parameters : (number p1 p2 : ℕ) (c : Command) → readCommand (dataOf (encodedParameters number p1 p2)) ≡ accepted c → c ≡ commandOf number p1 p2
+as-read : (number p1 p2 : ℕ) (c : Command) → readCommand (parameters number p1 p2) ≡ accepted c
+    → (commandListed number p1 p2 ≡ true) × (c ≡ commandOf number p1 p2)
 unfolding readCommand checkedCommand
-parameters number p1 p2 c e =
+as-read number p1 p2 c e =
     let w : ℕ = p2 / 256 * 256 + p2 % 256 in
     let p = passed (not (commandListed number p1 w)) 8 _ c e in
     let whole : w ≡ p2 = div-add-mod' p2 256 in
     let is : c ≡ commandOf number p1 w = cc (p .1) in
-    is ∙ ap (commandOf number p1) whole
+    (sym (ap (commandListed number p1) whole) ∙ not-false (commandListed number p1 w) (p .0), is ∙ ap (commandOf number p1) whole)
 
-pub command-back : (c : Command) → commandFits c ≡ true → (r : Command) → readCommand (dataOf (encodedCommand c)) ≡ accepted r → r ≡ c
-unfolding commandOf
-command-back (Off d unit) fits r e = parameters 0 (durationP1 d) unit r e ∙ ap (λ (x : Duration). Off x unit) (duration-after-p1 d fits .1)
-command-back (On d unit) fits r e = parameters 1 (durationP1 d) unit r e ∙ ap (λ (x : Duration). On x unit) (duration-after-p1 d fits .1)
-command-back (AllOff area) fits r e = parameters 2 0 area r e
-command-back (AllOn area) fits r e = parameters 3 0 area r e
-command-back (Level percent unit) fits r e = parameters 9 percent unit r e
-command-back (Decrement counter) fits r e = parameters 10 0 counter r e
-command-back (Increment counter) fits r e = parameters 11 0 counter r e
-command-back (SetCounter v counter) fits r e = parameters 12 v counter r e
-
-pub command-kind : (c : Command) → encodedCommand c .kind ≡ 0x0F
-command-kind (Off d unit) = refl
-command-kind (On d unit) = refl
-command-kind (AllOff area) = refl
-command-kind (AllOn area) = refl
-command-kind (Level percent unit) = refl
-command-kind (Decrement counter) = refl
-command-kind (Increment counter) = refl
-command-kind (SetCounter v counter) = refl
+command-back : (c r : Command) → readCommand (commandBytes c) ≡ accepted r → r ≡ c
+unfolding commandListed commandOf
+command-back (Off d unit) r e =
+    let a = as-read 0 (durationP1 d) unit r e in
+    a .1 ∙ ap (λ (x : Duration). Off x unit) (duration-after-p1 d (both {a = leb 1 unit} (a .0) .1))
+command-back (On d unit) r e =
+    let a = as-read 1 (durationP1 d) unit r e in
+    a .1 ∙ ap (λ (x : Duration). On x unit) (duration-after-p1 d (both {a = leb 1 unit} (a .0) .1))
+command-back (AllOff area) r e = as-read 2 0 area r e .1
+command-back (AllOn area) r e = as-read 3 0 area r e .1
+command-back (Level percent unit) r e = as-read 9 percent unit r e .1
+command-back (Decrement counter) r e = as-read 10 0 counter r e .1
+command-back (Increment counter) r e = as-read 11 0 counter r e .1
+command-back (SetCounter v counter) r e = as-read 12 v counter r e .1
 
 -- ---- log entries
 
-log-same : (e : LogEntry) → logOf (dataOf (encodedLog e)) ≡ e
+log-same : (e : LogEntry) → logOf (logBytes e) ≡ e
 unfolding logOf
 log-same e =
     λ i. record {
@@ -82,34 +77,32 @@ log-same e =
       «parameter_2» = div-add-mod' (e .«parameter_2») 256 i;
     }
 
-pub log-back : (e r : LogEntry) → readLog (dataOf (encodedLog e)) ≡ accepted r → r ≡ e
+log-back : (e r : LogEntry) → readLog (logBytes e) ≡ accepted r → r ≡ e
 unfolding readLog
 log-back e r h =
-    let p = passed (not (logListed (logOf (dataOf (encodedLog e))))) 8 _ r h in
-    let is : r ≡ logOf (dataOf (encodedLog e)) = cc (p .1) in
+    let p = passed (not (logListed (logOf (logBytes e)))) 8 _ r h in
+    let is : r ≡ logOf (logBytes e) = cc (p .1) in
     is ∙ log-same e
 
 -- ---- messages of fixed length
 
-pub fixed-back : (f : Fixed) → fixedFits f ≡ true → (m : Message) → messageOf (encodedFixed f .kind) (dataOf (encodedFixed f)) ≡ accepted m → m ≡ fixed f
-unfolding messageOf plainListed readPlain plainOf readLogin readZoneRequest logMessage commandMessage
-fixed-back F.Acknowledge fits m e = cc
-fixed-back F.NegativeAcknowledge fits m e = cc
-fixed-back F.UploadEventLog fits m e = cc
-fixed-back F.RequestSystemInformation fits m e = cc
-fixed-back F.RequestSystemStatus fits m e = cc
-fixed-back F.Logout fits m e = cc
-fixed-back F.RequestSystemEvents fits m e = cc
-fixed-back (F.Login a b c d) fits m e = cc (passed (not (digitsListed a b c d)) 8 (accepted (fixed (F.Login a b c d))) m e .1)
-fixed-back (F.ZoneRequest a b) fits m e = cc (passed (not (orderListed a b)) 8 (accepted (fixed (F.ZoneRequest a b))) m e .1)
-fixed-back (F.LogEntry x) fits m e =
-    let w = was-accepted (λ y. fixed (F.LogEntry y)) (readLog (dataOf (encodedLog x))) m (sym e) in
+pub fixed-back : (f : Fixed) (m : Message) → messageOf (fixedFrame f .kind) (fixedFrame f .bytes) ≡ accepted m → m ≡ fixed f
+unfolding messageOf plainListed readPlain plainOf readLogin readZoneRequest
+fixed-back F.Acknowledge m e = cc
+fixed-back F.NegativeAcknowledge m e = cc
+fixed-back F.UploadEventLog m e = cc
+fixed-back F.RequestSystemInformation m e = cc
+fixed-back F.RequestSystemStatus m e = cc
+fixed-back F.Logout m e = cc
+fixed-back F.RequestSystemEvents m e = cc
+fixed-back (F.Login a b c d) m e = cc (passed (not (digitsListed a b c d)) 8 (accepted (fixed (F.Login a b c d))) m e .1)
+fixed-back (F.ZoneRequest a b) m e = cc (passed (not (orderListed a b)) 8 (accepted (fixed (F.ZoneRequest a b))) m e .1)
+fixed-back (F.LogEntry x) m e =
+    let w = was-accepted (λ y. fixed (F.LogEntry y)) (readLog (logBytes x)) m (sym e) in
     w .2 ∙ ap (λ (y : LogEntry). fixed (F.LogEntry y)) (log-back x (w .0) (w .1))
-fixed-back (F.Command x) fits m e =
-    let w =
-    was-accepted (λ y. fixed (F.Command y)) (readCommand (dataOf (encodedCommand x))) m
-    (sym e ∙ ap (λ (k : ℕ). messageOf k (dataOf (encodedCommand x))) (command-kind x)) in
-    w .2 ∙ ap (λ (y : Command). fixed (F.Command y)) (command-back x fits (w .0) (w .1))
+fixed-back (F.Command x) m e =
+    let w = was-accepted (λ y. fixed (F.Command y)) (readCommand (commandBytes x)) m (sym e) in
+    w .2 ∙ ap (λ (y : Command). fixed (F.Command y)) (command-back x (w .0) (w .1))
 
 -- ---- lists
 

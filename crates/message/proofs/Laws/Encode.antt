@@ -1,26 +1,25 @@
 -- What is decoded is encoded to itself: each message that data bytes carry is written as those bytes. Assumes nothing.
-use mathlib.Core.Path.{_≡_, refl, sym, ap, ap₂, subst, _∙_}
-use mathlib.Core.Bool.{Bool, true, false, not, cond}
+use mathlib.Core.Path.{_≡_, refl, sym, ap, subst, _∙_}
+use mathlib.Core.Bool.{Bool, true, false, not, cond, _&&_, _||_}
 use mathlib.Core.List.{List, [], _∷_}
-use Prim.Native.Nat.{ℕ, zero, suc, _+_, _*_, _/_, _%_, _<_, _≤_}
-use native.Mathlib.Decide.{ℕ-discrete, decLt}
+use Prim.Native.Nat.{ℕ, zero, suc, _+_, _*_, _/_, _%_, _<_}
 use native.Mathlib.Omega.{arith}
 use lib.Dec.{T, eqb, ltb, leb, ltb→lt}
 use lib.Ieee.Fits.{and-l, and-r}
 use lib.ListN.{length, getD, drop}
 use lib.Pow.{areBytes}
-use borrow.Author.Tests.{eq-eqb, ne-eqb, lt-ltb, le-ltb, eqb-true, eqb-false, ltb-true, leb-true}
-use Rattle.message.specs.Command.{durationOf, durationListed, commandListed, commandOf}
-use Rattle.message.specs.Items.{conditionOf, latchedOf, armingOf, zoneOf, zoneListed, zonesListed, textOf, zones, words, texts}
+use borrow.Author.Tests.{eqb-true, eqb-false, ltb-true, not-true}
+use Rattle.message.specs.Command.{durationListed, commandListed, commandOf}
+use Rattle.message.specs.Items.{zoneOf, zoneListed, zonesListed, textOf, zones, words, texts}
 use Rattle.message.specs.Message.{plainListed}
-use Rattle.message.specs.Typed.{durationP1, commandFits, encodedCommand, encodedParameters, conditionBits, latchedBits, armingBits, flag, statusByte, zoneBytes, eventBytes, textBits, textBytes}
-use Rattle.message.specs.declared.typed.Encoded.{Encoded}
+use Rattle.message.specs.Typed.{parameters, commandBytes, conditionBits, latchedBits, armingBits, flag, statusByte, zoneBytes, eventBytes, textBits, textBytes}
 use Rattle.message.specs.declared.items.Condition.{Condition}
 use Rattle.message.specs.declared.items.Condition.the-variants as Condition
 use Rattle.message.specs.declared.items.LatchedAlarm.{LatchedAlarm}
 use Rattle.message.specs.declared.items.LatchedAlarm.the-variants as LatchedAlarm
 use Rattle.message.specs.declared.items.Arming.{Arming}
 use Rattle.message.specs.declared.items.Arming.the-variants as Arming
+use Rattle.message.proofs.Laws.Checked.{both}
 use Rattle.message.proofs.Laws.Duration.{p1-after-duration}
 
 -- ---- lists of a known length, by their elements
@@ -59,14 +58,14 @@ ten-of (a ∷ b ∷ c ∷ f ∷ g ∷ h ∷ d) e = ap {B = List ℕ} (λ t. a �
 pub which-plain : (P : ℕ → Type 0) → P 0x05 → P 0x06 → P 0x0D → P 0x11 → P 0x13 → P 0x21 → P 0x22 → (kind : ℕ) → plainListed kind ≡ true → P kind
 unfolding plainListed
 which-plain P a b c d e f g kind h =
-    pick 0x05 a _ (λ h. pick 0x06 b _ (λ h. pick 0x0D c _ (λ h. pick 0x11 d _ (λ h. pick 0x13 e _ (λ h. pick 0x21 f _ (λ h. subst P (sym (eqb-true kind 0x22 h)) g) h) h) h) h) h) h
+    either _ _ (either _ _ (either _ _ (either _ _ (either _ _ (either _ _ (at 0x05 a) (at 0x06 b)) (at 0x0D c)) (at 0x11 d)) (at 0x13 e)) (at 0x21 f)) (at 0x22 g) h
   where
-    pick : (k : ℕ) → P k → (later : Bool) → (later ≡ true → P kind) → cond (eqb kind k) true later ≡ true → P kind
-    pick k p later go h = by (eqb kind k) refl h
-      where
-        by : (t : Bool) → eqb kind k ≡ t → cond t true later ≡ true → P kind
-        by true q x = subst P (sym (eqb-true kind k q)) p
-        by false q x = go x
+    at : (k : ℕ) → P k → eqb kind k ≡ true → P kind
+    at k p q = subst P (sym (eqb-true kind k q)) p
+
+    either : (s t : Bool) → (s ≡ true → P kind) → (t ≡ true → P kind) → (s || t) ≡ true → P kind
+    either true t l r q = l refl
+    either false t l r q = r q
 
 -- ---- commands
 
@@ -75,65 +74,34 @@ branch : {G : Type 0} (t a b : Bool) → (t ≡ true → a ≡ true → G) → (
 branch true a b then′ other h = then′ refl h
 branch false a b then′ other h = other h
 
-pub never : {G : Type 0} → _≡_ {A = Bool} false true → G
-never e = let z : _≡_ {A = ℕ} 0 1 = ap (λ t. cond t 1 0) e in let nothing : ⊥ = omega arith in absurd nothing
-
 module _ (p1 p2 : ℕ) where
   abbrev Same : ℕ → Type 0
-  Same number = (commandFits (commandOf number p1 p2) ≡ true) × (encodedCommand (commandOf number p1 p2) ≡ encodedParameters number p1 p2)
+  Same number = commandBytes (commandOf number p1 p2) ≡ parameters number p1 p2
 
-  timed : durationListed p1 ≡ true → (commandFits (commandOf 0 p1 p2) ≡ true) × (encodedCommand (commandOf 0 p1 p2) ≡ encodedParameters 0 p1 p2)
+  -- a command that carries a duration
+  timed : (number : ℕ) → number < 2 → durationListed p1 ≡ true → Same number
   unfolding commandOf
-  timed h = let d = p1-after-duration p1 h in (d .0, ap (λ (p : ℕ). encodedParameters 0 p p2) (d .1))
+  timed zero h l = ap (λ (p : ℕ). parameters 0 p p2) (p1-after-duration p1 l)
+  timed (suc zero) h l = ap (λ (p : ℕ). parameters 1 p p2) (p1-after-duration p1 l)
+  timed (suc (suc n)) h l = let z : ⊥ = omega arith in absurd z
 
-  timed-on : durationListed p1 ≡ true → (commandFits (commandOf 1 p1 p2) ≡ true) × (encodedCommand (commandOf 1 p1 p2) ≡ encodedParameters 1 p1 p2)
-  unfolding commandOf
-  timed-on h = let d = p1-after-duration p1 h in (d .0, ap (λ (p : ℕ). encodedParameters 1 p p2) (d .1))
-
-  plain-2 : eqb p1 0 ≡ true → Same 2
-  unfolding commandOf
-  plain-2 h = (refl, ap (λ (p : ℕ). encodedParameters 2 p p2) (sym (eqb-true p1 0 h)))
-
-  plain-3 : eqb p1 0 ≡ true → Same 3
-  unfolding commandOf
-  plain-3 h = (refl, ap (λ (p : ℕ). encodedParameters 3 p p2) (sym (eqb-true p1 0 h)))
-
-  plain-10 : eqb p1 0 ≡ true → Same 10
-  unfolding commandOf
-  plain-10 h = (refl, ap (λ (p : ℕ). encodedParameters 10 p p2) (sym (eqb-true p1 0 h)))
-
-  plain-11 : eqb p1 0 ≡ true → Same 11
-  unfolding commandOf
-  plain-11 h = (refl, ap (λ (p : ℕ). encodedParameters 11 p p2) (sym (eqb-true p1 0 h)))
-
-  valued-9 : Same 9
-  unfolding commandOf
-  valued-9 = (refl, refl)
-
-  valued-12 : Same 12
-  unfolding commandOf
-  valued-12 = (refl, refl)
-
-  below-two : (number : ℕ) → number < 2 → durationListed p1 ≡ true → Same number
-  below-two zero h l = timed l
-  below-two (suc zero) h l = timed-on l
-  below-two (suc (suc n)) h l = let z : ⊥ = omega arith in absurd z
+  -- a command of P1 0
+  blank : (number : ℕ) → commandBytes (commandOf number 0 p2) ≡ parameters number 0 p2 → eqb p1 0 ≡ true → Same number
+  blank number h e = subst (λ (p : ℕ). commandBytes (commandOf number p p2) ≡ parameters number p p2) (sym (eqb-true p1 0 e)) h
 
   at : (number k : ℕ) → eqb number k ≡ true → Same k → Same number
   at number k e h = subst Same (sym (eqb-true number k e)) h
 
-  pub command-encoded : (number : ℕ) → commandListed number p1 p2 ≡ true
-      → (commandFits (commandOf number p1 p2) ≡ true) × (encodedCommand (commandOf number p1 p2) ≡ encodedParameters number p1 p2)
-  unfolding commandListed
+  pub command-encoded : (number : ℕ) → commandListed number p1 p2 ≡ true → commandBytes (commandOf number p1 p2) ≡ parameters number p1 p2
+  unfolding commandListed commandOf
   command-encoded number listed =
-      branch (eqb number 2) _ _ (λ e h. at number 2 e (plain-2 h))
-      (branch (eqb number 3) _ _ (λ e h. at number 3 e (plain-3 h))
-      (branch (eqb p2 0) _ _ (λ e h. never h)
-      (branch (ltb number 2) _ _ (λ e h. below-two number (ltb-true number 2 e) h)
-      (branch (eqb number 9) _ _ (λ e h. at number 9 e valued-9)
-      (branch (eqb number 10) _ _ (λ e h. at number 10 e (plain-10 h))
-      (branch (eqb number 11) _ _ (λ e h. at number 11 e (plain-11 h))
-      (λ e. at number 12 e valued-12))))))) listed
+      branch (eqb number 2) _ _ (λ e h. at number 2 e (blank 2 refl h))
+      (branch (eqb number 3) _ _ (λ e h. at number 3 e (blank 3 refl h))
+      (λ l. branch (ltb number 2) _ _ (λ e h. timed number (ltb-true number 2 e) h)
+      (branch (eqb number 9) _ _ (λ e h. at number 9 e refl)
+      (branch (eqb number 10) _ _ (λ e h. at number 10 e (blank 10 refl h))
+      (branch (eqb number 11) _ _ (λ e h. at number 11 e (blank 11 refl h))
+      (λ e. at number 12 e refl)))) (both {a = leb 1 p2} l .1))) listed
 
 -- ---- a word in two bytes
 
@@ -187,33 +155,21 @@ status-sum s c l a t h hc hl ha ht =
     let order : c + 4 * l + 16 * a + 64 * t ≡ 64 * t + 16 * a + 4 * l + c = omega arith in
     order ∙ four-sum s t a l c (omega arith) (ht ∙ top) ha hl hc
 
--- what a listed status byte is
-zone-facts : (s : ℕ) → zoneListed s ≡ true → (s % 4 ≡ 3 → ⊥) × (s / 4 % 4 ≡ 3 → ⊥) × (s < 128)
-zone-facts s e = first (eqb (s % 4) 3) refl e
-  where
-    second : (s % 4 ≡ 3 → ⊥) → (t : Bool) → eqb (s / 4 % 4) 3 ≡ t → cond t false (ltb s 128) ≡ true → (s % 4 ≡ 3 → ⊥) × (s / 4 % 4 ≡ 3 → ⊥) × (s < 128)
-    second a true q h = never h
-    second a false q h = (a, eqb-false (s / 4 % 4) 3 q, ltb-true s 128 h)
-
-    first : (t : Bool) → eqb (s % 4) 3 ≡ t → cond t false (cond (eqb (s / 4 % 4) 3) false (ltb s 128)) ≡ true → (s % 4 ≡ 3 → ⊥) × (s / 4 % 4 ≡ 3 → ⊥) × (s < 128)
-    first true q h = never h
-    first false q h = second (eqb-false (s % 4) 3 q) (eqb (s / 4 % 4) 3) refl h
-
 status-back : (s r : ℕ) → zoneListed s ≡ true → statusByte (zoneOf s r) ≡ s
 status-back s r e =
-    let f = zone-facts s e in
-    let a : s % 4 < 3 = omega (arith, f .0) in
-    let b : s / 4 % 4 < 3 = omega (arith, f .1) in
-    status-sum s _ _ _ _ (f .2) (condition-value (s % 4) a) (latched-value (s / 4 % 4) b) (arming-value (s / 16 % 4) (omega arith)) (flag-value (s / 64 % 2) (omega arith))
+    let fields = both {a = not (eqb (s % 4) 3) && not (eqb (s / 4 % 4) 3)} e in
+    let a = eqb-false (s % 4) 3 (not-true (eqb (s % 4) 3) (both (fields .0) .0)) in
+    let b = eqb-false (s / 4 % 4) 3 (not-true (eqb (s / 4 % 4) 3) (both {a = not (eqb (s % 4) 3)} (fields .0) .1)) in
+    status-sum s _ _ _ _ (ltb-true s 128 (fields .1)) (condition-value (s % 4) (omega (arith, a))) (latched-value (s / 4 % 4) (omega (arith, b)))
+    (arming-value (s / 16 % 4) (omega arith)) (flag-value (s / 64 % 2) (omega arith))
 
 pub zones-encoded : (d : List ℕ) → length d % 2 ≡ 0 → zonesListed d ≡ true → zoneBytes (zones d) ≡ d
 zones-encoded [] e l = refl
 zones-encoded (a ∷ []) e l = let z : ⊥ = omega arith in absurd z
-zones-encoded (a ∷ b ∷ d) e l = by (zoneListed a) refl l (λ h. zones-encoded d (omega arith) h)
-  where
-    by : (t : Bool) → zoneListed a ≡ t → cond t (zonesListed d) false ≡ true → (zonesListed d ≡ true → zoneBytes (zones d) ≡ d) → zoneBytes (zones (a ∷ b ∷ d)) ≡ a ∷ b ∷ d
-    by true q h ih = let tail : zoneBytes (zones d) ≡ d = ih h in let head : statusByte (zoneOf a b) ≡ a = status-back a b q in λ i. head i ∷ b ∷ tail i
-    by false q h ih = never h
+zones-encoded (a ∷ b ∷ d) e l =
+    let head : statusByte (zoneOf a b) ≡ a = status-back a b (both {a = zoneListed a} l .0) in
+    let tail : zoneBytes (zones d) ≡ d = zones-encoded d (omega arith) (both {a = zoneListed a} l .1) in
+    λ i. head i ∷ b ∷ tail i
 
 text-value : (v : ℕ) → v < 4 → textBits (textOf v) ≡ v
 text-value zero h = refl

@@ -1,29 +1,29 @@
 -- A message in its frame, by what the frame reader hands back. Assumes nothing.
-use mathlib.Core.Path.{_≡_, refl, sym, ap, ap₂, _∙_}
+use mathlib.Core.Path.{_≡_, refl, sym, ap, _∙_}
 use mathlib.Core.List.{List}
 use Prim.Native.Nat.{ℕ}
 use lib.ListN.{length}
 use Rattle.answer.specs.Answer.{Outcome, refused, accepted, andThen, onAccepted, inRoom, outAfter}
 use Rattle.link.specs.Frame.{Frame, Header, header, readFrame, writeFrame, dataPart}
 use Rattle.link.proofs.Laws.Whole.{data-part}
-use Rattle.message.specs.Message.{Message, messageOf, readMessage, writeMessage, counted}
+use Rattle.message.specs.Typed.{writeCounted}
+use Rattle.message.specs.Message.{Message, messageOf, writeMessage, counted}
 use Rattle.message.specs.declared.message.Message.{Message as Counted}
 use Rattle.message.proofs.Laws.Checked.{was-accepted, was-refused}
 
-module _ (s : List ℕ) where
-  -- what is done of an accepted frame is done of its kind and its data part
-  pub framed : {A : Type 0} (k n : ℕ) (g : ℕ → List ℕ → Outcome A) → accepted (record { kind = k; count = n }) ≡ onAccepted header (readFrame s)
-      → andThen (readFrame s) (λ f. g (f .kind) (f .bytes)) ≡ g k (dataPart s n)
-  framed {A = A} k n g e =
-      let w = was-accepted header (readFrame s) (record { kind = k; count = n }) e in
+-- what is done of the frame that was read is done of its kind and its data part
+module _ (s : List ℕ) (o : Outcome Frame) (was-read : (f : Frame) → o ≡ accepted f → readFrame s ≡ accepted f) where
+  pub framed : {A : Type 0} (k n : ℕ) (g : ℕ → List ℕ → Outcome A) → accepted (record { kind = k; count = n }) ≡ onAccepted header o
+      → andThen o (λ f. g (f .kind) (f .bytes)) ≡ g k (dataPart s n)
+  framed k n g e =
+      let w = was-accepted header o (record { kind = k; count = n }) e in
       let f = w .0 in
-      ap (λ (o : Outcome Frame). andThen o (λ f. g (f .kind) (f .bytes))) (w .1)
-      ∙ ap (g (f .kind)) (sym (data-part s f (w .1)))
+      ap (λ (x : Outcome Frame). andThen x (λ f. g (f .kind) (f .bytes))) (w .1)
+      ∙ ap (g (f .kind)) (sym (data-part s f (was-read f (w .1))))
       ∙ ap (λ (h : Header). g (h .kind) (dataPart s (h .count))) (sym (w .2))
 
-  pub unframed : {A : Type 0} (m : ℕ) (g : ℕ → List ℕ → Outcome A) → refused m ≡ onAccepted header (readFrame s)
-      → andThen (readFrame s) (λ f. g (f .kind) (f .bytes)) ≡ refused m
-  unframed m g e = ap (λ (o : Outcome Frame). andThen o (λ f. g (f .kind) (f .bytes))) (was-refused header (readFrame s) m e)
+pub unframed : {A : Type 0} (o : Outcome Frame) (m : ℕ) (g : Frame → Outcome A) → refused m ≡ onAccepted header o → andThen o g ≡ refused m
+unframed o m g e = ap (λ (x : Outcome Frame). andThen x g) (was-refused header o m e)
 
 -- what a writer does behind the checks
 module _ (kind : ℕ) (d : List ℕ) (room : ℕ) where
@@ -42,6 +42,14 @@ pub leaves-same : (o below : Outcome (List ℕ)) (old final : List ℕ) (w : Out
     → w ≡ onAccepted length below → final ≡ outAfter below old → (w ≡ onAccepted length o) × (final ≡ outAfter o old)
 leaves-same o below old final w e a f =
     (a ∙ sym (ap (onAccepted length) e), f ∙ sym (ap (λ (x : Outcome (List ℕ)). outAfter x old) e))
+
+-- of a typed message, by its case
+pub leaves-same-case : (room : ℕ) (m case : Counted) (items old final : List ℕ) (w : Outcome ℕ) → m ≡ case
+    → w ≡ onAccepted length (inRoom room (writeCounted case items)) → final ≡ outAfter (inRoom room (writeCounted case items)) old
+    → (w ≡ onAccepted length (inRoom room (writeCounted m items))) × (final ≡ outAfter (inRoom room (writeCounted m items)) old)
+leaves-same-case room m case items old final w is a f =
+    leaves-same (inRoom room (writeCounted m items)) (inRoom room (writeCounted case items)) old final w
+    (ap (λ (x : Counted). inRoom room (writeCounted x items)) is) a f
 
 pub leaves-nothing : (o : Outcome (List ℕ)) (old : List ℕ) (n : ℕ) → o ≡ refused n
     → (refused n ≡ onAccepted length o) × (old ≡ outAfter o old)

@@ -7,10 +7,9 @@ use native.Mathlib.Omega.{arith}
 use lib.Dec.{eqb}
 use lib.ListN.{length, getD, drop, length-drop}
 use borrow.Author.Tests.{eq-eqb, ne-eqb, le-ltb}
-use Rattle.answer.specs.Answer.{Outcome, refused, accepted, refuseIf, onAccepted}
+use Rattle.answer.specs.Answer.{refused, accepted, refuseIf, onAccepted}
 use Rattle.message.specs.Items.{zoneOf, zones, zonesListed, texts}
 use Rattle.message.specs.Message.{zoneStatus, messageStatus, statusLength, plainListed, readPlain, readZoneStatus, readMessageStatus, messageOf, counted}
-use Rattle.message.specs.declared.message.Message.{Message as Counted}
 use Rattle.message.specs.declared.message.Message.the-variants as C
 use Rattle.message.proofs.Laws.Checked.{refuses, passes, behind-check}
 use Rattle.message.proofs.Laws.Lists.{pairs-length, texts-length}

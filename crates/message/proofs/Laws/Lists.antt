@@ -1,14 +1,15 @@
 -- The lists that data bytes carry: their lengths, their items, and the test on their zones. Assumes nothing.
 use mathlib.Core.Path.{_≡_, refl, sym, ap, ap₂, _∙_}
-use mathlib.Core.Bool.{Bool, true, false, cond}
+use mathlib.Core.Bool.{true, _&&_}
 use mathlib.Core.List.{List, [], _∷_}
 use Prim.Native.Nat.{ℕ, zero, suc, _+_, _*_, _/_, _%_, _<_, _≤_}
 use native.Mathlib.Numerals.{add-two}
 use native.Mathlib.Omega.{arith}
 use lib.ListN.{length, getD, drop, drop-of-length-le}
 use lib.Seq.{drop-cons}
-use Rattle.message.specs.Items.{zoneListed, zonesListed, pairs, texts, textOf, twoBits}
+use Rattle.message.specs.Items.{zoneListed, zonesListed, pairs, texts, textOf}
 use Rattle.message.specs.Item.{itemAt}
+use Rattle.message.specs.Parts.{twoBits}
 use Rattle.answer.specs.Answer.{refused, accepted}
 
 pub pairs-length : {A : Type 0} (make : ℕ → ℕ → A) (d : List ℕ) → length (pairs make d) ≡ length d / 2
@@ -22,16 +23,26 @@ texts-length (b ∷ d) = let ih : length (texts d) ≡ 4 * length d = texts-leng
 
 -- the test on zones goes on behind a listed one
 pub zones-step : (d : List ℕ) (i : ℕ) → suc i < length d
-    → zonesListed (drop i d) ≡ cond (zoneListed (getD d i 0)) (zonesListed (drop (i + 2) d)) false
+    → zonesListed (drop i d) ≡ (zoneListed (getD d i 0) && zonesListed (drop (i + 2) d))
 zones-step d i h =
     ap zonesListed (drop-cons d i 0 (omega arith) ∙ ap {B = List ℕ} (λ t. getD d i 0 ∷ t) (drop-cons d (suc i) 0 h))
-    ∙ ap (λ (k : ℕ). cond (zoneListed (getD d i 0)) (zonesListed (drop k d)) false) (sym (add-two i))
+    ∙ ap (λ (k : ℕ). zoneListed (getD d i 0) && zonesListed (drop k d)) (sym (add-two i))
 
 -- and ends where the bytes end
 pub zones-end : (d : List ℕ) (i : ℕ) → length d ≤ i → zonesListed (drop i d) ≡ true
 zones-end d i h = ap zonesListed (drop-of-length-le d h)
 
 -- ---- items
+
+pub item-past : {A : Type 0} (l : List A) (i : ℕ) → length l ≤ i → itemAt l i ≡ refused 8
+item-past [] i h = refl
+item-past (a ∷ l) zero h = let z : ⊥ = omega arith in absurd z
+item-past (a ∷ l) (suc i) h = item-past l i (omega arith)
+
+pub item-there : {A : Type 0} (l : List A) (i : ℕ) (x : A) → i < length l → itemAt l i ≡ accepted (getD l i x)
+item-there [] i x h = let z : ⊥ = omega arith in absurd z
+item-there (a ∷ l) zero x h = refl
+item-there (a ∷ l) (suc i) x h = item-there l i x (omega arith)
 
 module _ {A : Type 0} (make : ℕ → ℕ → A) where
   pub past-pairs : (d : List ℕ) (i : ℕ) → length d / 2 ≤ i → itemAt (pairs make d) i ≡ refused 8

@@ -1,6 +1,6 @@
 -- What is written reads back as the same message, and what is read writes back to the same bytes. Assumes nothing.
 use mathlib.Core.Path.{_≡_, refl, sym, ap, ap₂, _∙_}
-use mathlib.Core.Bool.{Bool, true, false, not}
+use mathlib.Core.Bool.{true, not}
 use mathlib.Core.List.{List, [], _∷_}
 use Prim.Native.Nat.{ℕ, _+_, _*_, _/_, _%_}
 use native.Mathlib.Omega.{arith}
@@ -8,7 +8,7 @@ use lib.Dec.{T, eqb}
 use lib.ListN.{length, getD, drop}
 use lib.Pow.{areBytes}
 use borrow.Author.Tests.{eq-eqb, eqb-true, not-false}
-use Rattle.answer.specs.Answer.{Outcome, refused, accepted, refuseIf, andThen}
+use Rattle.answer.specs.Answer.{Outcome, refused, accepted, andThen}
 use Rattle.answer.proofs.Laws.Test.{passed, not-accepted}
 use Rattle.link.proofs.Laws.Bytes.{byte-at, drop-bytes}
 use Rattle.link.specs.Frame.{Frame, readFrame, writeFrame}
@@ -21,15 +21,12 @@ use Rattle.message.specs.declared.command.Command.{Command}
 use Rattle.message.specs.declared.log.LogEntry.{LogEntry}
 use Rattle.message.specs.declared.message.Fixed.the-variants as F
 use Rattle.message.specs.Message.{Message, fixed, zoneStatus, events, messageStatus, messageOf, readMessage, writeMessage, plainListed, plainOf, statusLength}
-use Rattle.message.specs.Typed.{fixedFits, commandFits, encodedCommand, encodedLog, encodedFixed, dataOf, zoneBytes, eventBytes, textBytes, writeFixed, write}
-use Rattle.message.specs.declared.message.Fixed.{Fixed}
-use Rattle.message.specs.declared.items.Zone.{Zone}
-use Rattle.message.specs.declared.items.TextMessage.{TextMessage}
-use Rattle.message.proofs.Laws.Decode.{command-kind, fixed-back, zones-back, events-back, texts-back}
-use Rattle.message.proofs.Laws.Checked.{passes}
+use Rattle.message.specs.Typed.{commandBytes, logBytes, fixedFrame, zoneBytes, eventBytes, textBytes, writeFixed, write}
+use Rattle.message.proofs.Laws.Decode.{fixed-back, zones-back, events-back, texts-back}
+use Rattle.message.proofs.Laws.Checked.{passes, never}
 use Rattle.message.proofs.Laws.Lists.{texts-length}
-use Rattle.message.proofs.Laws.Item.{zones-of, events-of, texts-of, every-type, every-plain, every-login, every-request, every-zones, every-events, every-texts, every-log, every-command}
-use Rattle.message.proofs.Laws.Encode.{none-of, leading, never, two-of, four-of, ten-of, which-plain, command-encoded, word-apart, events-encoded, zones-encoded, texts-encoded}
+use Rattle.message.proofs.Laws.Accepts.{every-type, every-plain, every-login, every-request, every-zones, every-events, every-texts, every-log, every-command}
+use Rattle.message.proofs.Laws.Encode.{none-of, leading, two-of, four-of, ten-of, which-plain, command-encoded, word-apart, events-encoded, zones-encoded, texts-encoded}
 
 -- a written type and data bytes are read as what they carry
 reads-written : (kind : ℕ) (d s : List ℕ) → writeMessage kind d ≡ accepted s → readMessage s ≡ messageOf kind d
@@ -57,18 +54,16 @@ same-read kind d s m e back =
 
 pub read-after-write : (m : Message) (s : List ℕ) → write m ≡ accepted s → readMessage s ≡ accepted m
 unfolding write writeFixed messageOf plainListed
-read-after-write (fixed f) s e =
-    let p = passed (not (fixedFits f)) 8 (writeMessage (encodedFixed f .kind) (dataOf (encodedFixed f))) s e in
-    same-read (encodedFixed f .kind) (dataOf (encodedFixed f)) s (fixed f) (p .1) (fixed-back f (not-false (fixedFits f) (p .0)))
+read-after-write (fixed f) s e = same-read (fixedFrame f .kind) (fixedFrame f .bytes) s (fixed f) e (fixed-back f)
 read-after-write (zoneStatus zs) s e =
-    same-read 0x16 (zoneBytes zs) s (zoneStatus zs) e (λ r h. zones-of (zoneBytes zs) r h ∙ ap zoneStatus (zones-back zs))
+    same-read 0x16 (zoneBytes zs) s (zoneStatus zs) e (every-zones (λ r. r ≡ zoneStatus zs) (zoneBytes zs) (λ _ _. ap zoneStatus (zones-back zs)))
 read-after-write (events es) s e =
-    same-read 0x23 (eventBytes es) s (events es) e (λ r h. events-of (eventBytes es) r h ∙ ap events (events-back es))
+    same-read 0x23 (eventBytes es) s (events es) e (every-events (λ r. r ≡ events es) (eventBytes es) (λ _. ap events (events-back es)))
 read-after-write (messageStatus ts) s e =
     let p = passed (not (eqb (length ts % 4) 0)) 7 (writeMessage 0x25 (0 ∷ textBytes ts)) s e in
     let four : length ts % 4 ≡ 0 = eqb-true (length ts % 4) 0 (not-false (eqb (length ts % 4) 0) (p .0)) in
     same-read 0x25 (0 ∷ textBytes ts) s (messageStatus ts) (p .1)
-    (λ r h. texts-of (0 ∷ textBytes ts) r h ∙ ap messageStatus (texts-back ts four))
+    (every-texts (λ r. r ≡ messageStatus ts) (0 ∷ textBytes ts) (λ _ _. ap messageStatus (texts-back ts four)))
 
 -- ---- what is read writes back
 
@@ -115,7 +110,7 @@ module _ (kind : ℕ) (d : List ℕ) (bytes : T (areBytes d)) where
       let w = word-apart (getD d k 0) (getD d j 0) (getD d k 0 * 256 + getD d j 0) (byte-at d bytes j) refl in
       ap₂ {C = List ℕ} (λ x y. x ∷ y ∷ []) (w .0) (w .1)
 
-  log-bytes : length d ≡ 10 → dataOf (encodedLog (logOf d)) ≡ d
+  log-bytes : length d ≡ 10 → logBytes (logOf d) ≡ d
   unfolding logOf
   log-bytes ten =
       ap (λ (t : List ℕ). getD d 0 0 ∷ getD d 1 0 ∷ getD d 2 0 ∷ getD d 3 0 ∷ getD d 4 0 ∷ getD d 5 0 ∷ getD d 6 0 ∷ getD d 7 0 ∷ t) (last-two 8 9)
@@ -128,7 +123,7 @@ module _ (kind : ℕ) (d : List ℕ) (bytes : T (areBytes d)) where
       let q = passed (not (logListed (logOf d))) 8 _ e (p .1) in
       let ten : length d ≡ 10 = eqb-true (length d) 10 (not-false (eqb (length d) 10) (p .0)) in
       let same : e ≡ logOf d = cc (q .1) in
-      ap₂ writeMessage (sym is) (ap (λ (x : LogEntry). dataOf (encodedLog x)) same ∙ log-bytes ten)
+      ap₂ writeMessage (sym is) (ap logBytes same ∙ log-bytes ten)
 
   command-written : kind ≡ 0x0F → (c : Command) → readCommand d ≡ accepted c → Back (fixed (F.Command c))
   unfolding write writeFixed readCommand checkedCommand
@@ -141,11 +136,9 @@ module _ (kind : ℕ) (d : List ℕ) (bytes : T (areBytes d)) where
       let four : length d ≡ 4 = eqb-true (length d) 4 (not-false (eqb (length d) 4) (p .0)) in
       let same : c ≡ commandOf n p1 p2 = cc (q .1) in
       let e = command-encoded p1 p2 n (not-false (commandListed n p1 p2) (q .0)) in
-      let bytes-back : dataOf (encodedCommand c) ≡ d =
-      ap (λ (x : Command). dataOf (encodedCommand x)) same ∙ ap dataOf (e .1)
-      ∙ ap {B = List ℕ} (λ t. n ∷ p1 ∷ t) (last-two 2 3) ∙ sym (four-of d four) in
-      sym (passes 8 (writeMessage (encodedCommand c .kind) (dataOf (encodedCommand c))) refl (ap commandFits same ∙ e .0))
-      ∙ ap₂ writeMessage (command-kind c ∙ sym is) bytes-back
+      let bytes-back : commandBytes c ≡ d =
+      ap commandBytes same ∙ e ∙ ap {B = List ℕ} (λ t. n ∷ p1 ∷ t) (last-two 2 3) ∙ sym (four-of d four) in
+      ap₂ writeMessage (sym is) bytes-back
 
   written-back : (m : Message) → messageOf kind d ≡ accepted m → Back m
   written-back =

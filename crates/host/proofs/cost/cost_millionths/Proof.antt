@@ -2,7 +2,7 @@ use mathlib.Core.Path.{_≡_, sym, ap, _∙_}
 use mathlib.Core.List.{[], _∷_}
 use Prim.Native.Nat.{ℕ, _%_, _^_}
 use borrow.Author.Needs.{needs}
-use Rattle.answer.specs.Answer.{Outcome, refused, accepted, onAccepted}
+use Rattle.answer.specs.Answer.{Outcome, accepted, onAccepted}
 use Rattle.answer.specs.Packed.{packed, field}
 use Rattle.tally.specs.Cost.{cost, costOf}
 use Rattle.tally.proofs.Laws.Cost.{accepted-short}

@@ -1,11 +1,9 @@
 use borrow.Author.Needs.{needs}
 use denote.Ref.{now}
-use mathlib.Core.Path.{ap, _∙_}
-use Rattle.answer.specs.Packed.{packed}
-use Rattle.host.proofs.Laws.{of-lower, message-fields}
+use Rattle.host.proofs.Laws.{of-lower}
 use Rattle.host.proofs.messages.omnilink_message_read.Statement.{statement}
 use Rattle.host.proofs.messages.omnilink_message_read.Tie as tie
-use Rattle.host.specs.Messages.{countedFields}
+use Rattle.host.specs.Messages.{messageFields}
 use Rattle.message.specs.Message.{counted, readMessage}
 
 read-requires : tie.Need-read-requires
@@ -17,7 +15,7 @@ pack-message-requires c κs = search needs
 returns : tie.Need-returns
 returns c =
     let o = readMessage (now (c .before .before .before .args .bytes)) in
-    of-lower counted countedFields o _ _ (c .pack-message .ensures) (c .before .read .ensures) ∙ ap packed (message-fields o)
+    of-lower counted messageFields o _ _ (c .pack-message .ensures) (c .before .read .ensures)
 
 pub omnilink-message-read-spec : {M : Type 1} → statement M
 omnilink-message-read-spec = tie.close (tie.spec read-requires pack-message-requires returns)

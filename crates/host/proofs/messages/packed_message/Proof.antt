@@ -6,11 +6,11 @@ use Rattle.answer.specs.Answer.{accepted}
 use Rattle.answer.specs.Packed.{packed, byte}
 use Rattle.host.proofs.messages.packed_message.Statement.{statement}
 use Rattle.host.proofs.messages.packed_message.Tie as tie
-use Rattle.host.specs.Messages.{countedFields}
+use Rattle.host.specs.Messages.{messageFields}
 use Rattle.message.specs.declared.message.Message.{Message}
 
 abbrev packedOf : Message → ℕ
-packedOf m = packed (accepted (countedFields m))
+packedOf m = packed (accepted (messageFields m))
 
 enum-known-m : tie.Need-enum-known-m
 enum-known-m c = search needs

@@ -2,7 +2,6 @@ use borrow.Author.Needs.{needs}
 use mathlib.Core.Path.{ap, _∙_}
 use Rattle.answer.specs.Answer.{accepted}
 use Rattle.message.proofs.Laws.Checked.{refuses, passes}
-use Rattle.message.proofs.Laws.Decided.{decided}
 use Rattle.message.proofs.command.checked.Statement.{statement}
 use Rattle.message.proofs.command.checked.Tie as tie
 use Rattle.message.specs.Command.{commandOf, checkedCommand}

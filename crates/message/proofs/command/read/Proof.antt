@@ -2,8 +2,7 @@ use Prim.Native.Nat.{_+_, _*_}
 use borrow.Author.Needs.{needs}
 use borrow.Author.Tests.{eq-eqb}
 use lib.ListN.{getD, length}
-use mathlib.Core.Path.{refl}
-use mathlib.Core.Path.{sym, ap, _∙_}
+use mathlib.Core.Path.{refl, ap, _∙_}
 use native.Mathlib.Omega.{arith}
 use Rattle.message.proofs.Laws.Checked.{passes}
 use Rattle.message.proofs.Laws.Decided.{decided}

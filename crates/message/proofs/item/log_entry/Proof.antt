@@ -1,21 +1,13 @@
-use Prim.Native.Nat.{ℕ}
 use borrow.Author.Needs.{needs}
-use mathlib.Core.List.{List}
-use mathlib.Core.Path.{sym, ap, _∙_}
-use Rattle.answer.specs.Answer.{andThen}
-use Rattle.link.specs.Frame.{outcomeOf}
-use Rattle.message.proofs.Laws.Decided.{decided}
-use Rattle.message.proofs.Laws.Item.{log-found, not-log, item-refused}
+use Rattle.message.proofs.Laws.Item.{item-found, item-refused}
 use Rattle.message.proofs.item.log_entry.Statement.{statement}
 use Rattle.message.proofs.item.log_entry.Tie as tie
-use Rattle.message.specs.Item.{logField, logItem}
-use Rattle.message.specs.Log.{readLog}
 
-kind-and-count-requires : tie.Need-kind-and-count-requires
-kind-and-count-requires c κs = search needs
+header-of-requires : tie.Need-header-of-requires
+header-of-requires c κs = search needs
 
-enum-known-kind : tie.Need-enum-known-kind
-enum-known-kind c = search needs
+enum-known-count : tie.Need-enum-known-count
+enum-known-count c = search needs
 
 data-requires : tie.Need-data-requires
 data-requires c κs = search needs
@@ -23,44 +15,25 @@ data-requires c κs = search needs
 log-field-at-requires : tie.Need-log-field-at-requires
 log-field-at-requires c κs = search needs
 
-returns : tie.Need-returns
-returns c =
-    let at = c .before .before .before .before in
-    let a = at .before .before .before .before .args in
-    let s = a .bytes .now in
-    let k = at .kind .given .0 .0 in
-    let n = at .kind .given .0 .1 .0 in
-    c .log-field-at .ensures
-    ∙ ap (λ (x : List ℕ). andThen (readLog x) (λ e. logField e (a .i))) (c .before .«data» .ensures)
-    ∙ sym (log-found s k n (sym (at .before .before .kind-and-count .ensures) ∙ ap outcomeOf (at .kind .given .1)) (a .i) (c .before .before .if1 .taken))
-
-returns-2 : tie.Need-returns-2
-returns-2 c =
-    let at = c .before .before in
-    let a = at .before .before .before .before .args in
-    let s = a .bytes .now in
-    let k = at .kind .given .0 .0 in
-    let n = at .kind .given .0 .1 .0 in
-    sym (not-log s k n (sym (at .before .before .kind-and-count .ensures) ∙ ap outcomeOf (at .kind .given .1)) (a .i) (c .if1 .left))
-
 enum-known-r : tie.Need-enum-known-r
 enum-known-r c = search needs
 
-returns-3 : tie.Need-returns-3
-returns-3 c =
-    let at = c .before in
-    let a = at .before .before .before .before .args in
-    sym (item-refused (logItem (a .i)) (a .bytes .now) _ (sym (at .before .before .kind-and-count .ensures) ∙ ap outcomeOf (at .r .given .1)))
+returns : tie.Need-returns
+returns c =
+    let at = c .before .before .before in
+    item-found _ _ _ _ (at .before .before .header-of .ensures) _ _ _ _ (at .count .given .1) (c .before .«data» .ensures) (c .log-field-at .ensures)
+
+returns-2 : tie.Need-returns-2
+returns-2 c = item-refused _ _ _ _ (c .before .before .before .header-of .ensures) _ (c .before .r .given .1)
 
 pub log-entry-spec : {M : Type 1} → statement M
 log-entry-spec =
     tie.close
     (tie.spec
-    kind-and-count-requires
-    enum-known-kind
+    header-of-requires
+    enum-known-count
     data-requires
     log-field-at-requires
-    returns
-    returns-2
     enum-known-r
-    returns-3)
+    returns
+    returns-2)

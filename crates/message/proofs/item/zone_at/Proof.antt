@@ -2,7 +2,6 @@ use borrow.Author.Needs.{needs}
 use mathlib.Core.Path.{sym, ap, _∙_}
 use native.Mathlib.Omega.{arith}
 use Rattle.answer.specs.Answer.{accepted}
-use Rattle.message.proofs.Laws.Decided.{decided}
 use Rattle.message.proofs.Laws.Lists.{past-pairs, pair-item}
 use Rattle.message.proofs.item.zone_at.Statement.{statement}
 use Rattle.message.proofs.item.zone_at.Tie as tie

@@ -1,7 +1,6 @@
 use Prim.Native.Nat.{_/_, _%_}
 use borrow.Author.Needs.{needs}
 use lib.Dec.{eqb}
-use Rattle.message.proofs.Laws.Decided.{decided}
 use Rattle.message.proofs.items.zone_of.Statement.{statement}
 use Rattle.message.proofs.items.zone_of.Tie as tie
 

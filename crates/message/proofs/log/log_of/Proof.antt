@@ -1,6 +1,5 @@
 use borrow.Author.Needs.{needs}
 use lib.ListN.{getD}
-use Rattle.message.proofs.Laws.Decided.{decided}
 use Rattle.message.proofs.log.log_of.Statement.{statement}
 use Rattle.message.proofs.log.log_of.Tie as tie
 use Rattle.message.specs.Log.{logOf}

@@ -1,15 +1,11 @@
 use borrow.Author.Needs.{needs}
-use borrow.Author.Tests.{eq-eqb}
-use lib.ListN.{length, getD}
-use mathlib.Core.Bool.{not}
-use mathlib.Core.Path.{refl, sym, ap, _∙_}
+use lib.ListN.{getD}
 use native.Mathlib.Omega.{arith}
-use Rattle.answer.specs.Answer.{accepted, refuseIf, onAccepted}
-use Rattle.message.proofs.Laws.Checked.{refuses, passes}
+use Rattle.message.proofs.Laws.Checked.{fields-refused, fields-taken}
 use Rattle.message.proofs.Laws.Decided.{decided}
 use Rattle.message.proofs.message.login.Statement.{statement}
 use Rattle.message.proofs.message.login.Tie as tie
-use Rattle.message.specs.Message.{fixed, digitsListed, readLogin, counted}
+use Rattle.message.specs.Message.{fixed, readLogin, counted}
 use Rattle.message.specs.declared.message.Fixed.the-variants as F
 
 returns : tie.Need-returns
@@ -35,21 +31,13 @@ returns-2 : tie.Need-returns-2
 unfolding readLogin
 returns-2 c =
     let d = c .before .before .before .before .before .before .before .before .args .«data» .now in
-    let read = accepted (fixed (F.Login (getD d 0 0) (getD d 1 0) (getD d 2 0) (getD d 3 0))) in
-    let digits = digitsListed (getD d 0 0) (getD d 1 0) (getD d 2 0) (getD d 3 0) in
-    ap (onAccepted counted)
-    (passes 8 read (c .before .digits-listed .ensures) (c .if2 .taken)
-    ∙ passes 7 (refuseIf (not digits) 8 read) refl (eq-eqb (length d) 4 (omega arith)))
+    fields-taken counted d 4 (fixed (F.Login (getD d 0 0) (getD d 1 0) (getD d 2 0) (getD d 3 0))) (omega arith) (c .before .digits-listed .ensures) (c .if2 .taken)
 
 returns-3 : tie.Need-returns-3
 unfolding readLogin
 returns-3 c =
     let d = c .before .before .before .before .before .before .before .before .args .«data» .now in
-    let read = accepted (fixed (F.Login (getD d 0 0) (getD d 1 0) (getD d 2 0) (getD d 3 0))) in
-    let digits = digitsListed (getD d 0 0) (getD d 1 0) (getD d 2 0) (getD d 3 0) in
-    ap (onAccepted counted)
-    (refuses 8 read (c .before .digits-listed .ensures) (c .if2 .left)
-    ∙ passes 7 (refuseIf (not digits) 8 read) refl (eq-eqb (length d) 4 (omega arith)))
+    fields-refused counted d 4 (fixed (F.Login (getD d 0 0) (getD d 1 0) (getD d 2 0) (getD d 3 0))) (omega arith) (c .before .digits-listed .ensures) (c .if2 .left)
 
 pub login-spec : {M : Type 1} → statement M
 login-spec =

@@ -1,13 +1,15 @@
 use Prim.Native.Nat.{ℕ}
 use borrow.Author.Needs.{needs}
 use mathlib.Core.Path.{sym, ap, _∙_}
-use native.Mathlib.Omega.{arith}
 use Rattle.answer.specs.Answer.{onAccepted}
-use Rattle.message.proofs.Laws.Decided.{decided}
+use Rattle.answer.proofs.Laws.Test.{in-one}
 use Rattle.message.proofs.Laws.Kinds.{is-plain, unknown}
 use Rattle.message.proofs.message.of_data.Statement.{statement}
 use Rattle.message.proofs.message.of_data.Tie as tie
-use Rattle.message.specs.Message.{messageOf, plainListed, counted}
+use Rattle.message.specs.Command.{readCommand}
+use Rattle.message.specs.Log.{readLog}
+use Rattle.message.specs.Message.{fixed, messageOf, plainListed, counted}
+use Rattle.message.specs.declared.message.Fixed.the-variants as F
 
 plain-listed-requires : tie.Need-plain-listed-requires
 plain-listed-requires c κs = search needs
@@ -73,7 +75,7 @@ returns-7 : tie.Need-returns-7
 unfolding messageOf plainListed
 returns-7 c =
     let d = c .before .before .before .before .before .before .before .before .before .before .args .«data» .now in
-    c .log-entry .ensures ∙ sym (ap (λ (k : ℕ). onAccepted counted (messageOf k d)) (c .before .if7 .taken))
+    c .log-entry .ensures ∙ sym (in-one (λ e. fixed (F.LogEntry e)) counted (readLog d)) ∙ sym (ap (λ (k : ℕ). onAccepted counted (messageOf k d)) (c .before .if7 .taken))
 
 command-requires : tie.Need-command-requires
 command-requires c κs = search needs
@@ -82,7 +84,7 @@ returns-8 : tie.Need-returns-8
 unfolding messageOf plainListed
 returns-8 c =
     let d = c .before .before .before .before .before .before .before .before .before .before .before .args .«data» .now in
-    c .command .ensures ∙ sym (ap (λ (k : ℕ). onAccepted counted (messageOf k d)) (c .before .if8 .taken))
+    c .command .ensures ∙ sym (in-one (λ e. fixed (F.Command e)) counted (readCommand d)) ∙ sym (ap (λ (k : ℕ). onAccepted counted (messageOf k d)) (c .before .if8 .taken))
 
 returns-9 : tie.Need-returns-9
 returns-9 c =

@@ -3,8 +3,7 @@ use borrow.Author.Needs.{needs}
 use mathlib.Core.List.{List}
 use mathlib.Core.Path.{sym, ap, _∙_}
 use Rattle.answer.specs.Answer.{onAccepted}
-use Rattle.link.specs.Frame.{outcomeOf}
-use Rattle.message.proofs.Laws.Decided.{decided}
+use Rattle.link.specs.Frame.{outcomeOf, readFrame}
 use Rattle.message.proofs.Laws.Framed.{framed, unframed}
 use Rattle.message.proofs.message.read.Statement.{statement}
 use Rattle.message.proofs.message.read.Tie as tie
@@ -34,14 +33,14 @@ returns c =
     let n = at .kind .given .0 .1 .0 in
     c .of-data .ensures
     ∙ ap (λ (x : List ℕ). onAccepted counted (messageOf k x)) (c .before .«data» .ensures)
-    ∙ sym (ap (onAccepted counted) (framed s k n messageOf (sym (ap outcomeOf (at .kind .given .1)) ∙ at .before .before .read .ensures)))
+    ∙ sym (ap (onAccepted counted) (framed s (readFrame s) (λ f e. e) k n messageOf (sym (ap outcomeOf (at .kind .given .1)) ∙ at .before .before .read .ensures)))
 
 returns-2 : tie.Need-returns-2
 unfolding readMessage
 returns-2 c =
     let at = c .before in
     let s = at .before .before .before .before .args .bytes .now in
-    sym (ap (onAccepted counted) (unframed s _ messageOf (sym (ap outcomeOf (at .r .given .1)) ∙ at .before .before .read .ensures)))
+    sym (ap (onAccepted counted) (unframed (readFrame s) _ (λ f. messageOf (f .kind) (f .bytes)) (sym (ap outcomeOf (at .r .given .1)) ∙ at .before .before .read .ensures)))
 
 pub read-spec : {M : Type 1} → statement M
 read-spec =

@@ -4,7 +4,6 @@ use lib.ListN.{length}
 use mathlib.Core.List.{List}
 use mathlib.Core.Path.{sym, ap, _∙_}
 use Rattle.answer.specs.Answer.{Outcome, onAccepted, outAfter}
-use Rattle.message.proofs.Laws.Decided.{decided}
 use Rattle.message.proofs.Laws.Framed.{frame-written, nothing-written}
 use Rattle.message.proofs.message.write.Statement.{statement}
 use Rattle.message.proofs.message.write.Tie as tie

@@ -1,7 +1,4 @@
-use Prim.Native.Nat.{_%_}
 use borrow.Author.Needs.{needs}
-use borrow.Author.Tests.{eq-eqb, ne-eqb, le-ltb}
-use lib.ListN.{length}
 use native.Mathlib.Omega.{arith}
 use Rattle.message.proofs.Laws.Decided.{decided}
 use Rattle.message.proofs.Laws.Kinds.{zones-refused, zones-accepted}

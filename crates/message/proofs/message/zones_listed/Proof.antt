@@ -1,9 +1,8 @@
-use Prim.Native.Nat.{ℕ, suc, _+_, _-_, _%_, _≤_, zero-le}
+use Prim.Native.Nat.{_+_, _-_, _%_, _≤_, zero-le}
 use lib.ListN.{length, getD, drop}
-use mathlib.Core.Bool.{Bool, true, false, cond}
+use mathlib.Core.Bool.{Bool, true, false, _&&_}
 use mathlib.Core.Path.{_≡_, refl, sym, ap, _∙_}
 use native.Mathlib.Omega.{arith}
-use Rattle.message.proofs.Laws.Decided.{decided}
 use Rattle.message.proofs.Laws.Lists.{zones-step, zones-end}
 use Rattle.message.proofs.message.zones_listed.Statement.{statement}
 use Rattle.message.proofs.message.zones_listed.Tie as tie
@@ -39,7 +38,7 @@ loop-again c =
       omega arith,
       at .loop .inv .2
           ∙ zones-step d (at .loop .i) (omega arith)
-          ∙ ap (λ (t : Bool). cond t (zonesListed (drop (at .loop .i + 2) d)) false) listed,
+          ∙ ap (λ (t : Bool). t && zonesListed (drop (at .loop .i + 2) d)) listed,
     )
 
 returns : tie.Need-returns Inv-loop μ-loop
@@ -49,7 +48,7 @@ returns c =
     let not-listed : zoneListed (getD d (at .loop .i) 0) ≡ false = sym (c .before .zone-listed .ensures) ∙ c .if1 .left in
     sym (at .loop .inv .2
     ∙ zones-step d (at .loop .i) (omega arith)
-    ∙ ap (λ (t : Bool). cond t (zonesListed (drop (at .loop .i + 2) d)) false) not-listed)
+    ∙ ap (λ (t : Bool). t && zonesListed (drop (at .loop .i + 2) d)) not-listed)
 
 returns-2 : tie.Need-returns-2 Inv-loop μ-loop
 returns-2 c =

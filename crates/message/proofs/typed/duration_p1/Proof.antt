@@ -1,5 +1,4 @@
 use borrow.Author.Needs.{needs}
-use Rattle.message.proofs.Laws.Decided.{decided}
 use Rattle.message.proofs.typed.duration_p1.Statement.{statement}
 use Rattle.message.proofs.typed.duration_p1.Tie as tie
 
@@ -9,23 +8,26 @@ enum-told c = search needs
 enum-known-d : tie.Need-enum-known-d
 enum-known-d c = search needs
 
+count-p1-requires : tie.Need-count-p1-requires
+count-p1-requires c κs = search needs
+
 enum-known-d-2 : tie.Need-enum-known-d-2
 enum-known-d-2 c = search needs
 
-above-requires : tie.Need-above-requires
-above-requires c κs = search needs
+count-p1-requires-2 : tie.Need-count-p1-requires-2
+count-p1-requires-2 c κs = search needs
 
 enum-known-d-3 : tie.Need-enum-known-d-3
 enum-known-d-3 c = search needs
 
-above-requires-2 : tie.Need-above-requires-2
-above-requires-2 c κs = search needs
+count-p1-requires-3 : tie.Need-count-p1-requires-3
+count-p1-requires-3 c κs = search needs
 
 returns : tie.Need-returns
 returns c = search needs
 
 returns-2 : tie.Need-returns-2
-returns-2 c = search needs
+returns-2 c = cc
 
 returns-3 : tie.Need-returns-3
 returns-3 c = cc
@@ -39,10 +41,11 @@ duration-p1-spec =
     (tie.spec
     enum-told
     enum-known-d
+    count-p1-requires
     enum-known-d-2
-    above-requires
+    count-p1-requires-2
     enum-known-d-3
-    above-requires-2
+    count-p1-requires-3
     returns
     returns-2
     returns-3

@@ -1,10 +1,15 @@
 use Prim.Native.Nat.{ℕ}
 use borrow.Author.Needs.{needs}
 use mathlib.Core.Path.{sym, ap, _∙_}
-use Rattle.message.proofs.Laws.Decided.{decided}
 use Rattle.message.proofs.typed.encoded_command.Statement.{statement}
 use Rattle.message.proofs.typed.encoded_command.Tie as tie
-use Rattle.message.specs.Typed.{encodedParameters, encodedCommand}
+use Rattle.message.specs.Parts.{encoded}
+use Rattle.message.specs.Typed.{parameters, commandBytes}
+use Rattle.message.specs.declared.command.Command.{Command}
+use Rattle.message.specs.declared.typed.Encoded.{Encoded}
+
+abbrev encodedOf : Command → Encoded
+encodedOf x = encoded 0x0F (commandBytes x)
 
 enum-known-c : tie.Need-enum-known-c
 enum-known-c c = search needs
@@ -64,33 +69,33 @@ returns : tie.Need-returns
 returns c =
     let at = c .before .before .before in
     c .encoded-parameters .ensures
-    ∙ ap (λ (p : ℕ). encodedParameters 0 p (at .c .given .0 .1 .0)) (c .before .duration-p1 .ensures)
-    ∙ sym (ap encodedCommand (at .c .given .1))
+    ∙ ap (λ (p : ℕ). encoded 0x0F (parameters 0 p (at .c .given .0 .1 .0))) (c .before .duration-p1 .ensures)
+    ∙ sym (ap encodedOf (at .c .given .1))
 
 returns-2 : tie.Need-returns-2
 returns-2 c =
     let at = c .before .before .before in
     c .encoded-parameters2 .ensures
-    ∙ ap (λ (p : ℕ). encodedParameters 1 p (at .c2 .given .0 .1 .0)) (c .before .duration-p12 .ensures)
-    ∙ sym (ap encodedCommand (at .c2 .given .1))
+    ∙ ap (λ (p : ℕ). encoded 0x0F (parameters 1 p (at .c2 .given .0 .1 .0))) (c .before .duration-p12 .ensures)
+    ∙ sym (ap encodedOf (at .c2 .given .1))
 
 returns-3 : tie.Need-returns-3
-returns-3 c = cc
+returns-3 c = c .encoded-parameters3 .ensures ∙ sym (ap encodedOf (c .before .before .c3 .given .1))
 
 returns-4 : tie.Need-returns-4
-returns-4 c = cc
+returns-4 c = c .encoded-parameters4 .ensures ∙ sym (ap encodedOf (c .before .before .c4 .given .1))
 
 returns-5 : tie.Need-returns-5
-returns-5 c = cc
+returns-5 c = c .encoded-parameters5 .ensures ∙ sym (ap encodedOf (c .before .before .c5 .given .1))
 
 returns-6 : tie.Need-returns-6
-returns-6 c = cc
+returns-6 c = c .encoded-parameters6 .ensures ∙ sym (ap encodedOf (c .before .before .c6 .given .1))
 
 returns-7 : tie.Need-returns-7
-returns-7 c = cc
+returns-7 c = c .encoded-parameters7 .ensures ∙ sym (ap encodedOf (c .before .before .c7 .given .1))
 
 returns-8 : tie.Need-returns-8
-returns-8 c = cc
+returns-8 c = c .encoded-parameters8 .ensures ∙ sym (ap encodedOf (c .before .before .c8 .given .1))
 
 pub encoded-command-spec : {M : Type 1} → statement M
 encoded-command-spec =

@@ -1,9 +1,14 @@
 use borrow.Author.Needs.{needs}
 use mathlib.Core.Path.{sym, ap, _∙_}
-use Rattle.message.proofs.Laws.Decided.{decided}
 use Rattle.message.proofs.typed.encoded_fixed.Statement.{statement}
 use Rattle.message.proofs.typed.encoded_fixed.Tie as tie
-use Rattle.message.specs.Typed.{encodedFixed}
+use Rattle.message.specs.Parts.{encoded}
+use Rattle.message.specs.Typed.{fixedFrame}
+use Rattle.message.specs.declared.message.Fixed.{Fixed}
+use Rattle.message.specs.declared.typed.Encoded.{Encoded}
+
+abbrev encodedOf : Fixed → Encoded
+encodedOf x = encoded (fixedFrame x .kind) (fixedFrame x .bytes)
 
 enum-told : tie.Need-enum-told
 enum-told c = search needs
@@ -72,37 +77,37 @@ encoded-command-requires : tie.Need-encoded-command-requires
 encoded-command-requires c κs = search needs
 
 returns : tie.Need-returns
-returns c = cc
+returns c = c .encoded-0 .ensures ∙ sym (ap encodedOf (c .before .enum-told .given .1))
 
 returns-2 : tie.Need-returns-2
-returns-2 c = cc
+returns-2 c = c .encoded-02 .ensures ∙ sym (ap encodedOf (c .before .enum-told2 .given .1))
 
 returns-3 : tie.Need-returns-3
-returns-3 c = cc
+returns-3 c = c .encoded-03 .ensures ∙ sym (ap encodedOf (c .before .enum-told3 .given .1))
 
 returns-4 : tie.Need-returns-4
-returns-4 c = cc
+returns-4 c = c .encoded-04 .ensures ∙ sym (ap encodedOf (c .before .enum-told4 .given .1))
 
 returns-5 : tie.Need-returns-5
-returns-5 c = cc
+returns-5 c = c .encoded-05 .ensures ∙ sym (ap encodedOf (c .before .enum-told5 .given .1))
 
 returns-6 : tie.Need-returns-6
-returns-6 c = cc
+returns-6 c = c .encoded-06 .ensures ∙ sym (ap encodedOf (c .before .enum-told6 .given .1))
 
 returns-7 : tie.Need-returns-7
-returns-7 c = cc
+returns-7 c = c .encoded-07 .ensures ∙ sym (ap encodedOf (c .before .enum-told7 .given .1))
 
 returns-8 : tie.Need-returns-8
-returns-8 c = c .encoded-4 .ensures ∙ sym (ap encodedFixed (c .before .before .f .given .1))
+returns-8 c = c .encoded-4 .ensures ∙ sym (ap encodedOf (c .before .before .f .given .1))
 
 returns-9 : tie.Need-returns-9
-returns-9 c = cc
+returns-9 c = c .encoded-2 .ensures ∙ sym (ap encodedOf (c .before .before .f2 .given .1))
 
 returns-10 : tie.Need-returns-10
-returns-10 c = c .encoded-log .ensures ∙ sym (ap encodedFixed (c .before .before .f3 .given .1))
+returns-10 c = c .encoded-log .ensures ∙ sym (ap encodedOf (c .before .before .f3 .given .1))
 
 returns-11 : tie.Need-returns-11
-returns-11 c = search needs
+returns-11 c = c .encoded-command .ensures ∙ sym (ap encodedOf (c .before .before .f4 .given .1))
 
 pub encoded-fixed-spec : {M : Type 1} → statement M
 encoded-fixed-spec =

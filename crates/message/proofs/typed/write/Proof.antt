@@ -1,16 +1,8 @@
-use Prim.Native.Nat.{ℕ}
 use borrow.Author.Needs.{needs}
 use lib.ListN.{length}
-use mathlib.Core.List.{List}
-use mathlib.Core.Path.{refl, sym, ap, _∙_}
-use Rattle.answer.specs.Answer.{Outcome, refuseIf, inRoom}
-use Rattle.message.proofs.Laws.Decided.{decided}
-use Rattle.message.proofs.Laws.Framed.{leaves-same, leaves-nothing}
+use Rattle.message.proofs.Laws.Framed.{leaves-same-case}
 use Rattle.message.proofs.typed.write.Statement.{statement}
 use Rattle.message.proofs.typed.write.Tie as tie
-use Rattle.message.specs.Typed.{writeCounted}
-use Rattle.message.specs.declared.message.Message.the-variants as C
-use Rattle.message.specs.declared.message.Message.{Message as Counted}
 
 enum-known-m : tie.Need-enum-known-m
 enum-known-m c = search needs
@@ -61,9 +53,7 @@ returns : tie.Need-returns
 returns c =
     let at = c .before .before .before .before .before in
     let a = at .before .before .before .before .args in
-    let items = a .items .now in
-    leaves-same (inRoom (length (a .out .now)) (writeCounted (a .m) items)) (inRoom (length (a .out .now)) (writeCounted (C.Fixed (at .m .given .0 .0)) items)) (a .out .now) _ _
-    (ap (λ (m : Counted). inRoom (length (a .out .now)) (writeCounted m items)) (at .m .given .1))
+    leaves-same-case (length (a .out .now)) (a .m) _ (a .items .now) (a .out .now) _ _ (at .m .given .1)
     (c .before .before .write-fixed .ensures .0) (c .before .before .write-fixed .ensures .1)
 
 same-length-2 : tie.Need-same-length-2
@@ -73,9 +63,7 @@ returns-2 : tie.Need-returns-2
 returns-2 c =
     let at = c .before .before .before .before .before in
     let a = at .before .before .before .before .args in
-    let items = a .items .now in
-    leaves-same (inRoom (length (a .out .now)) (writeCounted (a .m) items)) (inRoom (length (a .out .now)) (writeCounted (C.ZoneStatus (at .m2 .given .0 .0)) items)) (a .out .now) _ _
-    (ap (λ (m : Counted). inRoom (length (a .out .now)) (writeCounted m items)) (at .m2 .given .1))
+    leaves-same-case (length (a .out .now)) (a .m) _ (a .items .now) (a .out .now) _ _ (at .m2 .given .1)
     (c .before .before .write-items .ensures .0) (c .before .before .write-items .ensures .1)
 
 same-length-3 : tie.Need-same-length-3
@@ -85,9 +73,7 @@ returns-3 : tie.Need-returns-3
 returns-3 c =
     let at = c .before .before .before .before .before in
     let a = at .before .before .before .before .args in
-    let items = a .items .now in
-    leaves-same (inRoom (length (a .out .now)) (writeCounted (a .m) items)) (inRoom (length (a .out .now)) (writeCounted (C.Events (at .m3 .given .0 .0)) items)) (a .out .now) _ _
-    (ap (λ (m : Counted). inRoom (length (a .out .now)) (writeCounted m items)) (at .m3 .given .1))
+    leaves-same-case (length (a .out .now)) (a .m) _ (a .items .now) (a .out .now) _ _ (at .m3 .given .1)
     (c .before .before .write-items2 .ensures .0) (c .before .before .write-items2 .ensures .1)
 
 same-length-4 : tie.Need-same-length-4
@@ -97,9 +83,7 @@ returns-4 : tie.Need-returns-4
 returns-4 c =
     let at = c .before .before .before .before .before in
     let a = at .before .before .before .before .args in
-    let items = a .items .now in
-    leaves-same (inRoom (length (a .out .now)) (writeCounted (a .m) items)) (inRoom (length (a .out .now)) (writeCounted (C.MessageStatus (at .m4 .given .0 .0)) items)) (a .out .now) _ _
-    (ap (λ (m : Counted). inRoom (length (a .out .now)) (writeCounted m items)) (at .m4 .given .1))
+    leaves-same-case (length (a .out .now)) (a .m) _ (a .items .now) (a .out .now) _ _ (at .m4 .given .1)
     (c .before .before .write-items3 .ensures .0) (c .before .before .write-items3 .ensures .1)
 
 pub write-spec : {M : Type 1} → statement M

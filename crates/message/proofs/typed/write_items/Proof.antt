@@ -1,12 +1,9 @@
-use Prim.Native.Nat.{ℕ}
 use borrow.Author.Needs.{needs}
 use borrow.Author.Tests.{eq-eqb, ne-eqb}
 use lib.ListN.{length}
-use mathlib.Core.List.{List}
-use mathlib.Core.Path.{refl, sym, ap, _∙_}
-use Rattle.answer.specs.Answer.{Outcome, refuseIf, inRoom}
+use mathlib.Core.Path.{refl, sym, ap}
+use Rattle.answer.specs.Answer.{inRoom}
 use Rattle.message.proofs.Laws.Checked.{refuses, passes}
-use Rattle.message.proofs.Laws.Decided.{decided}
 use Rattle.message.proofs.Laws.Framed.{leaves-same, leaves-nothing}
 use Rattle.message.proofs.typed.write_items.Statement.{statement}
 use Rattle.message.proofs.typed.write_items.Tie as tie
