@@ -8,26 +8,16 @@ use Rattle.answer.specs.Answer.{Outcome, refused, accepted, refuseIf, onAccepte
 use Rattle.omnistat.specs.declared.group.Group.{Group}
 use Rattle.omnistat.specs.declared.group.Group.the-variants.{First, Second, Third}
 use Rattle.omnistat.specs.declared.frame.End.the-variants.{Thermostat, Host}
-use Rattle.omnistat.specs.Register.{within, registerCount}
+use Rattle.omnistat.specs.Register.{within}
 use Rattle.omnistat.specs.Frame.{framed, bytesOf, firstOf}
 use Rattle.omnistat.specs.Message.{Request, Reply, poll, setFrom, pollGroup, acknowledge, negative, dataFrom, group, replyKind, replyPayload}
 use Rattle.omnistat.specs.Omnistat.{Addressed, read}
 use Rattle.thermostat.specs.Registers.{listed, settable}
 use Rattle.thermostat.specs.Map.{contents, run, stored}
 
--- the output has at least 18 bytes
-abbrev pub leastRoom : ℕ
-leastRoom = 18
-
-abbrev pub broadcast : ℕ
-broadcast = 0x00
-
-abbrev pub universal : ℕ
-universal = 0xFA
-
--- a message for this thermostat: broadcast, its own address, or universal
+-- a message for this thermostat: 00 broadcast, its own address, or FA universal
 abbrev pub isFor : ℕ → ℕ → Bool
-isFor own first = eqb first broadcast || (eqb first own || eqb first universal)
+isFor own first = eqb first 0x00 || (eqb first own || eqb first 0xFA)
 
 -- every register listed, writable and in range
 unfoldable pub allSettable : ℕ → List ℕ → Bool
@@ -63,7 +53,7 @@ replyBytes own reply = bytesOf (framed (firstOf Host own) (replyKind reply) (rep
 
 -- what is sent: silence where the message is for another address, and broadcast is never answered
 unfoldable pub sentBy : ℕ → List ℕ → Addressed (Request (List ℕ)) → List ℕ
-sentBy own m a = cond (isFor own (a .address)) (cond (eqb (a .address) broadcast) [] (replyBytes own (replyTo m (a .message)))) []
+sentBy own m a = cond (isFor own (a .address)) (cond (eqb (a .address) 0x00) [] (replyBytes own (replyTo m (a .message)))) []
 
 -- broadcast acts the same
 unfoldable pub mapAfter : ℕ → List ℕ → Addressed (Request (List ℕ)) → List ℕ
@@ -80,8 +70,8 @@ done own m a = record { sent = sentBy own m a; map = mapAfter own m a }
 -- the order of the checks: 9 for the output and the map; own address outside 1-127 is 8; then the reader's answers, with nothing sent
 unfoldable pub step : ℕ → List ℕ → List ℕ → ℕ → Outcome Done
 step own m bytes room =
-    refuseIf (ltb room leastRoom) 9
-    (refuseIf (not (eqb (length m) registerCount)) 9
+    refuseIf (ltb room 18) 9
+    (refuseIf (not (eqb (length m) 256)) 9
     (refuseIf (not (within 1 127 own)) 8
     (onAccepted (done own m) (read Thermostat bytes))))
 

@@ -9,7 +9,8 @@ use Rattle.thermostat.proofs.Laws.Rules.{states}
 use Rattle.thermostat.proofs.registers.are_listed.Statement.{statement}
 use Rattle.thermostat.proofs.registers.are_listed.Tie as tie
 use Rattle.thermostat.specs.Map.{run}
-use Rattle.thermostat.specs.Registers.{listed, listedFlag, States}
+use Rattle.thermostat.specs.Registers.{listed}
+use Rattle.thermostat.specs.Parts.{listedFlag, States}
 use Rattle.thermostat.specs.Step.{allListed}
 
 abbrev Inv-loop : tie.InvT-loop

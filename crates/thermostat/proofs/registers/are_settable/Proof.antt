@@ -8,7 +8,8 @@ use Rattle.thermostat.proofs.Laws.Map.{settable-begun, settable-next, s
 use Rattle.thermostat.proofs.Laws.Rules.{states}
 use Rattle.thermostat.proofs.registers.are_settable.Statement.{statement}
 use Rattle.thermostat.proofs.registers.are_settable.Tie as tie
-use Rattle.thermostat.specs.Registers.{listed, readOnly, allowed, settable, writableFlag, lowOf, highOf, States}
+use Rattle.thermostat.specs.Registers.{listed, readOnly, allowed, settable}
+use Rattle.thermostat.specs.Parts.{writableFlag, lowOf, highOf, States}
 use Rattle.thermostat.specs.Step.{allSettable}
 
 abbrev Inv-loop : tie.InvT-loop

@@ -6,7 +6,7 @@ use native.Mathlib.Omega.{arith}
 use Rattle.thermostat.proofs.Laws.Rules.{too-low, low-enough}
 use Rattle.thermostat.proofs.registers.is_taken.Statement.{statement}
 use Rattle.thermostat.proofs.registers.is_taken.Tie as tie
-use Rattle.thermostat.specs.Registers.{takes, lowOf, highOf}
+use Rattle.thermostat.specs.Parts.{takes, lowOf, highOf}
 
 is-price-level-requires : tie.Need-is-price-level-requires
 is-price-level-requires c κs = search needs
