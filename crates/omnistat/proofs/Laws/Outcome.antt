@@ -5,7 +5,7 @@ use mathlib.Core.Logic.{_⊎_, inl, inr}
 use Prim.Native.Nat.{ℕ}
 use native.Mathlib.Omega.{arith}
 use Rattle.answer.specs.Answer.{Outcome, refused, accepted, refuseIf, onAccepted, andThen}
-use Rattle.omnistat.specs.Answer.{passed as passed-check}
+use Rattle.omnistat.specs.Parts.{passed as passed-check}
 
 pub never : {A : Type 0} (n : ℕ) (a : A) → refused n ≡ accepted a → ⊥
 never n a e = let z : _≡_ {A = ℕ} 0 1 = cc in omega arith

@@ -38,7 +38,7 @@ module _ (own : ℕ) (m s : List ℕ) (room : ℕ) (d : Done) (e : step own m s 
     map-left =
         let q = addressed first (setFrom start values) in
         let k : accepted (done own m q) ≡ accepted d
-        = sym (ap (λ (o : Outcome (Addressed (Request (List ℕ)))). onAccepted (done own m) o) r) ∙ whole-map .1 in
+        = sym (ap (λ (o : Outcome (Addressed Request)). onAccepted (done own m) o) r) ∙ whole-map .1 in
         ap (λ (x : Done). x .map) (sym (same-accepted k)) ∙ heard-map own first m (setFrom start values) f
 
     -- every register listed, writable and in range: all values are stored

@@ -1,11 +1,11 @@
-use Prim.Native.Nat.{ℕ, _-_}
+use Prim.Native.Nat.{ℕ, _+_, _-_, _/_}
 use mathlib.Core.Path.{_≡_, sym, ap, _∙_}
 use mathlib.Core.Bool.{true}
 use native.Mathlib.Omega.{arith}
 use borrow.Author.Tests.{not-true, not-false}
 use denote.Ref.{now}
 use lib.ListN.{getD}
-use Rattle.omnistat.specs.Frame.{directed, countedLength}
+use Rattle.omnistat.specs.Frame.{directed}
 use Rattle.omnistat.proofs.Laws.Frame.{sumTest, empty, misdirected, one-byte, short, long, unsummed, whole}
 use borrow.Author.Needs.{needs}
 use Rattle.omnistat.proofs.frame.read.Statement.{statement}
@@ -16,7 +16,7 @@ went-on : (c : tie.Else2) → directed (c .before .before .before .before .befor
 went-on c = sym (c .before .is-directed .ensures) ∙ not-false _ (c .if2 .left)
 
 tested : (c : tie.After-is-summed)
-    → sumTest (now (c .before .before .before .before .before .before .before .before .before .before .before .args .bytes)) (countedLength (getD (now (c .before .before .before .before .before .before .before .before .before .before .before .args .bytes)) 1 0) - 1)
+    → sumTest (now (c .before .before .before .before .before .before .before .before .before .before .before .args .bytes)) (getD (now (c .before .before .before .before .before .before .before .before .before .before .before .args .bytes)) 1 0 / 16 + 3 - 1)
     ≡ c .is-summed .result
 tested c =
     ap (λ (n : ℕ). sumTest (now (c .before .before .before .before .before .before .before .before .before .before .before .args .bytes)) (n - 1)) (sym (c .before .before .before .counted-length .ensures))

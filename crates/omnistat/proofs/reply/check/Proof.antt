@@ -1,9 +1,13 @@
 use mathlib.Core.Path.{sym, ap, _∙_}
+use mathlib.Core.List.{[], _∷_, _++_}
 use denote.Ref.{now}
 use Rattle.answer.specs.Answer.{onAccepted}
 use Rattle.omnistat.specs.declared.reply.Reply.{Reply}
-use Rattle.omnistat.specs.Message.{asReply}
-use Rattle.omnistat.specs.Answer.{passed, replyOf, heardReply}
+use Rattle.omnistat.specs.declared.frame.End.the-variants.{Host}
+use Rattle.omnistat.specs.Message.{asMessage}
+use Rattle.omnistat.specs.Omnistat.{addressed}
+use Rattle.omnistat.specs.Answer.{replyIn}
+use Rattle.omnistat.specs.Parts.{passed}
 use Rattle.omnistat.proofs.Laws.Outcome.{checked}
 use borrow.Author.Needs.{needs}
 use Rattle.omnistat.proofs.reply.check.Statement.{statement}
@@ -30,32 +34,32 @@ enum-told-4 c = search needs
 returns : tie.Need-returns
 returns c =
     let a = c .before .before .before .before .before .args in
-    ap (λ (r : Reply). onAccepted passed (replyOf r)) (sym (c .before .r .given .1))
-    ∙ checked (heardReply 0) (asReply (a .kind) (now (a .payload))) _ (c .before .before .before .as-reply .ensures)
+    ap (λ (r : Reply). onAccepted passed (replyIn (0 ∷ 0 ∷ (now (a .payload) ++ [])) r)) (sym (c .before .r .given .1))
+    ∙ checked (addressed 0) (asMessage Host (a .kind) (now (a .payload))) _ (c .before .before .before .as-reply .ensures [])
 
 returns-2 : tie.Need-returns-2
 returns-2 c =
     let a = c .before .before .before .before .args in
-    ap (λ (r : Reply). onAccepted passed (replyOf r)) (sym (c .enum-told .given .1))
-    ∙ checked (heardReply 0) (asReply (a .kind) (now (a .payload))) _ (c .before .before .as-reply .ensures)
+    ap (λ (r : Reply). onAccepted passed (replyIn (0 ∷ 0 ∷ (now (a .payload) ++ [])) r)) (sym (c .enum-told .given .1))
+    ∙ checked (addressed 0) (asMessage Host (a .kind) (now (a .payload))) _ (c .before .before .as-reply .ensures [])
 
 returns-3 : tie.Need-returns-3
 returns-3 c =
     let a = c .before .before .before .before .args in
-    ap (λ (r : Reply). onAccepted passed (replyOf r)) (sym (c .enum-told2 .given .1))
-    ∙ checked (heardReply 0) (asReply (a .kind) (now (a .payload))) _ (c .before .before .as-reply .ensures)
+    ap (λ (r : Reply). onAccepted passed (replyIn (0 ∷ 0 ∷ (now (a .payload) ++ [])) r)) (sym (c .enum-told2 .given .1))
+    ∙ checked (addressed 0) (asMessage Host (a .kind) (now (a .payload))) _ (c .before .before .as-reply .ensures [])
 
 returns-4 : tie.Need-returns-4
 returns-4 c =
     let a = c .before .before .before .before .args in
-    ap (λ (r : Reply). onAccepted passed (replyOf r)) (sym (c .enum-told3 .given .1))
-    ∙ checked (heardReply 0) (asReply (a .kind) (now (a .payload))) _ (c .before .before .as-reply .ensures)
+    ap (λ (r : Reply). onAccepted passed (replyIn (0 ∷ 0 ∷ (now (a .payload) ++ [])) r)) (sym (c .enum-told3 .given .1))
+    ∙ checked (addressed 0) (asMessage Host (a .kind) (now (a .payload))) _ (c .before .before .as-reply .ensures [])
 
 returns-5 : tie.Need-returns-5
 returns-5 c =
     let a = c .before .before .before .before .args in
-    ap (λ (r : Reply). onAccepted passed (replyOf r)) (sym (c .enum-told4 .given .1))
-    ∙ checked (heardReply 0) (asReply (a .kind) (now (a .payload))) _ (c .before .before .as-reply .ensures)
+    ap (λ (r : Reply). onAccepted passed (replyIn (0 ∷ 0 ∷ (now (a .payload) ++ [])) r)) (sym (c .enum-told4 .given .1))
+    ∙ checked (addressed 0) (asMessage Host (a .kind) (now (a .payload))) _ (c .before .before .as-reply .ensures [])
 
 pub check-spec : {M : Type 1} → statement M
 check-spec =

@@ -4,9 +4,7 @@ use lib.ListN.{length}
 use mathlib.Core.List.{List}
 use mathlib.Core.Path.{refl, sym, ap, _∙_}
 use Rattle.answer.specs.Answer.{accepted, numberOf}
-use Rattle.omnistat.proofs.Laws.Heard.{request-read}
-use Rattle.omnistat.proofs.Laws.Outcome.{still-refused}
-use Rattle.omnistat.specs.Answer.{requestOf, onMessage, countedRequest}
+use Rattle.omnistat.specs.Answer.{requestIn}
 use Rattle.omnistat.specs.Message.{poll, setFrom, pollGroup}
 use Rattle.omnistat.specs.Omnistat.{addressed, read}
 use Rattle.omnistat.specs.declared.frame.End.the-variants.{Thermostat}
@@ -67,8 +65,8 @@ on-poll-requires c κs =
     let first = given .0 .0 in
     let start = given .0 .1 .0 in
     let count = given .0 .1 .1 .0 in
-    let e = sym (ap requestOf (given .1)) ∙ c .before .before .before .before .before .read .ensures in
-    let p = poll-read s first start count (request-read s first (poll start count) e) in
+    let e = sym (c .before .before .before .before .before .read .ensures) ∙ ap (requestIn s) (given .1) in
+    let p = poll-read s first start count e in
     ((c .before .before .before .before .before .before .before .if3 .left, c .before .before .before .before .before .before .if4 .left), (c .before .before .before .before .before .before .before .before .before .if1 .left, (c .before .before .before .before .before .before .before .before .if2 .left, p)))
 
 enum-known-first-2 : tie.Need-enum-known-first-2
@@ -84,10 +82,10 @@ on-set-requires c κs =
     let first = given .0 .0 in
     let start = given .0 .1 .0 in
     let count = given .0 .1 .1 .0 in
-    let e = sym (ap requestOf (given .1)) ∙ c .before .before .before .before .before .before .read .ensures in
+    let e = sym (c .before .before .before .before .before .before .read .ensures) ∙ ap (requestIn s) (given .1) in
     let v = c .before .values .result .now in
     let r =
-    request-read s first (setFrom start count) e
+    e
     ∙ ap (λ (x : List ℕ). accepted (addressed first (setFrom start x))) (sym (c .before .values .ensures)) in
     ((c .before .before .before .before .before .before .before .before .if3 .left, c .before .before .before .before .before .before .before .if4 .left), (c .before .before .before .before .before .before .before .before .before .before .if1 .left, (c .before .before .before .before .before .before .before .before .before .if2 .left, set-read s first start v r)))
 
@@ -105,10 +103,9 @@ returns-5 c =
     let old = a .out .now in
     let o = step (a .own) m s (length old) in
     let n = numberOf (c .before .r .given .0 .0) in
-    let e = sym (c .before .before .before .read .ensures) ∙ ap requestOf (c .before .r .given .1) in
+    let e = sym (c .before .before .before .read .ensures) ∙ ap (requestIn s) (c .before .r .given .1) in
     when-refused o n m old
-    (reader-refuses (a .own) m s (length old) (c .before .before .before .before .before .before .before .if1 .left) (c .before .before .before .before .before .before .if2 .left) (c .before .before .before .before .before .if3 .left) (c .before .before .before .before .if4 .left) n
-    (still-refused (onMessage countedRequest) (read Thermostat s) n e))
+    (reader-refuses (a .own) m s (length old) (c .before .before .before .before .before .before .before .if1 .left) (c .before .before .before .before .before .before .if2 .left) (c .before .before .before .before .before .if3 .left) (c .before .before .before .before .if4 .left) n e)
 
 same-length : tie.Need-same-length
 same-length c = search needs
@@ -127,11 +124,11 @@ returns-6 c =
     let first = given .0 .0 in
     let start = given .0 .1 .0 in
     let count = given .0 .1 .1 .0 in
-    let e = sym (ap requestOf (given .1)) ∙ c .before .before .before .before .before .before .before .before .read .ensures in
+    let e = sym (c .before .before .before .before .before .before .before .before .read .ensures) ∙ ap (requestIn s) (given .1) in
     let q = addressed first (poll start count) in
     let call = c .before .before .on-poll in
     when-done o (a .own) q _ m m old _
-    (stepped (a .own) m s (length old) (c .before .before .before .before .before .before .before .before .before .before .before .before .if1 .left) (c .before .before .before .before .before .before .before .before .before .before .before .if2 .left) (c .before .before .before .before .before .before .before .before .before .before .if3 .left) (c .before .before .before .before .before .before .before .before .before .if4 .left) q (request-read s first (poll start count) e))
+    (stepped (a .own) m s (length old) (c .before .before .before .before .before .before .before .before .before .before .before .before .if1 .left) (c .before .before .before .before .before .before .before .before .before .before .before .if2 .left) (c .before .before .before .before .before .before .before .before .before .before .if3 .left) (c .before .before .before .before .before .before .before .before .before .if4 .left) q e)
     (call .ensures .0) (only-sets (a .own) m first (poll start count) refl) (call .ensures .1)
 
 same-length-3 : tie.Need-same-length-3
@@ -151,11 +148,11 @@ returns-7 c =
     let first = given .0 .0 in
     let start = given .0 .1 .0 in
     let count = given .0 .1 .1 .0 in
-    let e = sym (ap requestOf (given .1)) ∙ c .before .before .before .before .before .before .before .before .before .before .before .read .ensures in
+    let e = sym (c .before .before .before .before .before .before .before .before .before .before .before .read .ensures) ∙ ap (requestIn s) (given .1) in
     let v = c .before .before .before .before .before .before .values .result .now in
     let q = addressed first (setFrom start v) in
     let r =
-    request-read s first (setFrom start count) e
+    e
     ∙ ap (λ (x : List ℕ). accepted (addressed first (setFrom start x))) (sym (c .before .before .before .before .before .before .values .ensures)) in
     let call = c .before .before .before .before .on-set in
     when-done o (a .own) q _ m _ old _
@@ -178,11 +175,11 @@ returns-8 c =
     let given = c .before .before .before .before .before .before .first3 .given in
     let first = given .0 .0 in
     let g = given .0 .1 .0 in
-    let e = sym (ap requestOf (given .1)) ∙ c .before .before .before .before .before .before .before .before .read .ensures in
+    let e = sym (c .before .before .before .before .before .before .before .before .read .ensures) ∙ ap (requestIn s) (given .1) in
     let q = addressed first (pollGroup g) in
     let call = c .before .before .on-group in
     when-done o (a .own) q _ m m old _
-    (stepped (a .own) m s (length old) (c .before .before .before .before .before .before .before .before .before .before .before .before .if1 .left) (c .before .before .before .before .before .before .before .before .before .before .before .if2 .left) (c .before .before .before .before .before .before .before .before .before .before .if3 .left) (c .before .before .before .before .before .before .before .before .before .if4 .left) q (request-read s first (pollGroup g) e))
+    (stepped (a .own) m s (length old) (c .before .before .before .before .before .before .before .before .before .before .before .before .if1 .left) (c .before .before .before .before .before .before .before .before .before .before .before .if2 .left) (c .before .before .before .before .before .before .before .before .before .before .if3 .left) (c .before .before .before .before .before .before .before .before .before .if4 .left) q e)
     (call .ensures .0) (only-sets (a .own) m first (pollGroup g) refl) (call .ensures .1)
 
 pub step-spec : {M : Type 1} → statement M
