@@ -12,7 +12,8 @@ use Rattle.omnistat.specs.declared.request.Request.the-variants.{Refused
 use Rattle.omnistat.specs.declared.reply.Reply.{Reply as ReplyAnswer}
 use Rattle.omnistat.specs.declared.reply.Reply.the-variants.{Refused as ReplyRefused, Acknowledge, Negative, Data, Group}
 
--- what the reader at the thermostat answers of bytes: the values of a set follow its start register
+-- what the reader at the thermostat answers of bytes: the values of a set follow its start register. The sum follows them, so that no
+-- other count names them
 abbrev pub requestIn : List ℕ → RequestAnswer → Outcome (Addressed Request)
 requestIn bytes (RequestRefused r) = refused (numberOf r)
 requestIn bytes (Poll first start count) = accepted (addressed first (poll start count))

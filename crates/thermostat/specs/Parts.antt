@@ -10,7 +10,7 @@ use Rattle.thermostat.specs.Registers.{Range, inAny, listed, readOnly, a
 abbrev pub takes : ℕ → ℕ → Bool
 takes r v = inAny (allowed r) v
 
--- what the tables state of each register number, as a byte: 1 for yes; the least and the greatest byte that it takes
+-- what is stated of each register number, as a byte: 1 for yes; the least and the greatest byte that it takes
 abbrev pub flag : Bool → ℕ
 flag true = 1
 flag false = 0

@@ -2,18 +2,16 @@
 use mathlib.Core.Path.{_≡_, refl, ap, _∙_, sym, subst}
 use mathlib.Core.Bool.{Bool, true, false, not, and-true}
 use mathlib.Core.List.{List, [], _∷_, _++_}
-use Prim.Native.Nat.{ℕ, zero, suc, _+_, _-_, _*_, _/_, _%_, _<_, _≤_}
+use Prim.Native.Nat.{ℕ, suc, _+_, _-_, _*_, _/_, _%_, _<_, _≤_}
 use native.Mathlib.Omega.{arith}
-use native.Mathlib.Nat.{not-suc-le-zero}
 use lib.ListN.{length, getD, take, drop, length-append}
 use lib.Seq.{take-suc, take-all, length-take-le, take-append-seam, getD-append-seam}
 use lib.Dec.{ltb, eqb}
-use borrow.Author.Tests.{lt-ltb, le-ltb, le-leb, eq-eqb, ne-eqb, ltb-false, eqb-true}
-use Rattle.answer.specs.Answer.{Outcome, refused, accepted, refuseIf}
-use Rattle.answer.proofs.Laws.Test.{holds, fails, below, not-below}
+use borrow.Author.Tests.{lt-ltb, le-ltb, le-leb, eq-eqb, ltb-false, eqb-true}
+use Rattle.answer.specs.Answer.{refused, accepted, refuseIf}
 use Rattle.omnistat.specs.declared.frame.End.{End}
-use Rattle.omnistat.specs.declared.frame.End.the-variants.{Thermostat, Host}
-use Rattle.omnistat.specs.Frame.{Frame, framed, frame, directed, firstOf, sumOf, summed, bytesOf}
+use Rattle.omnistat.specs.declared.frame.End.the-variants.{Host}
+use Rattle.omnistat.specs.Frame.{Frame, frame, directed, sumOf, summed, bytesOf}
 use Rattle.omnistat.proofs.Laws.Outcome.{never, same-accepted, passed, passed-not}
 
 -- the byte at a place is the sum of those before it
@@ -65,22 +63,12 @@ module _ (end : End) where
       simp (d, le-ltb (length (a ∷ b ∷ s)) (b / 16 + 3) n, lt-ltb _ _ k)
 
   -- a whole message, by the outcome of its last check
-  pub unsummed : (s : List ℕ) → 1 < length s → directed end (getD s 0 0) ≡ true → length s ≡ getD s 1 0 / 16 + 3
-      → sumTest s (getD s 1 0 / 16 + 3 - 1) ≡ false → frame end s ≡ refused 5
+  pub judged : (t : Bool) (s : List ℕ) → 1 < length s → directed end (getD s 0 0) ≡ true → length s ≡ getD s 1 0 / 16 + 3
+      → sumTest s (getD s 1 0 / 16 + 3 - 1) ≡ t → frame end s ≡ refuseIf (not t) 5 (accepted (taken s))
   unfolding frame
-  unsummed [] h d k e = absurd (omega arith)
-  unsummed (a ∷ []) h d k e = absurd (omega arith)
-  unsummed (a ∷ b ∷ s) h d k e =
-      let n : b / 16 + 3 ≤ length (a ∷ b ∷ s) = omega arith in
-      let m : length (a ∷ b ∷ s) ≤ b / 16 + 3 = omega arith in
-      simp (d, le-ltb (length (a ∷ b ∷ s)) (b / 16 + 3) n, le-ltb (b / 16 + 3) (length (a ∷ b ∷ s)) m, sym (in-place a b s) ∙ e)
-
-  pub whole : (s : List ℕ) → 1 < length s → directed end (getD s 0 0) ≡ true → length s ≡ getD s 1 0 / 16 + 3
-      → sumTest s (getD s 1 0 / 16 + 3 - 1) ≡ true → frame end s ≡ accepted (taken s)
-  unfolding frame
-  whole [] h d k e = absurd (omega arith)
-  whole (a ∷ []) h d k e = absurd (omega arith)
-  whole (a ∷ b ∷ s) h d k e =
+  judged t [] h d k e = absurd (omega arith)
+  judged t (a ∷ []) h d k e = absurd (omega arith)
+  judged t (a ∷ b ∷ s) h d k e =
       let n : b / 16 + 3 ≤ length (a ∷ b ∷ s) = omega arith in
       let m : length (a ∷ b ∷ s) ≤ b / 16 + 3 = omega arith in
       simp (d, le-ltb (length (a ∷ b ∷ s)) (b / 16 + 3) n, le-ltb (b / 16 + 3) (length (a ∷ b ∷ s)) m, sym (in-place a b s) ∙ e)
@@ -136,6 +124,6 @@ read-back end f d k =
     let g : getD rest (second / 16) 0 ≡ sumOf (f .first ∷ second ∷ p) = ap (λ (i : ℕ). getD rest i 0) n ∙ getD-append-seam p _ [] 0 in
     let e : getD rest (second / 16) 0 ≡ sumOf (f .first ∷ second ∷ take (second / 16) rest)
     = g ∙ ap (λ (x : List ℕ). sumOf (f .first ∷ second ∷ x)) (sym m) in
-    whole end (f .first ∷ second ∷ rest) (omega arith) d (omega (arith, l))
+    judged end true (f .first ∷ second ∷ rest) (omega arith) d (omega (arith, l))
     (in-place (f .first) second rest ∙ eq-eqb _ _ e)
     ∙ ap accepted (λ i. record { first = f .first; kind = t i; payload = m i })

@@ -4,7 +4,7 @@ use Prim.Native.Nat.{ℕ}
 use borrow.Author.Tests.{eq-eqb, ne-eqb}
 use Rattle.omnistat.specs.declared.group.Group.{Group}
 use Rattle.omnistat.specs.declared.group.Group.the-variants.{First, Second, Third}
-use Rattle.answer.specs.Answer.{Outcome, refused, accepted}
+use Rattle.answer.specs.Answer.{refused, accepted}
 use Rattle.omnistat.specs.Group.{groupOf}
 
 module _ (type : Group → ℕ) (kind : ℕ) where

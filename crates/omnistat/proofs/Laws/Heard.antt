@@ -7,7 +7,7 @@ use Prim.Native.Nat.{ℕ, zero, suc}
 use native.Mathlib.Omega.{arith}
 use lib.ListN.{length, take, drop, take-append-drop}
 use lib.Seq.{drop-drop}
-use Rattle.answer.specs.Answer.{Outcome, refused, accepted, refuseIf, onAccepted}
+use Rattle.answer.specs.Answer.{Outcome, accepted, refuseIf, onAccepted}
 use Rattle.omnistat.specs.declared.group.Group.{Group}
 use Rattle.omnistat.specs.declared.frame.End.{End}
 use Rattle.omnistat.specs.declared.frame.End.the-variants.{Thermostat, Host}
@@ -20,8 +20,8 @@ use Rattle.omnistat.specs.Frame.{framed, bytesOf, directed, firstOf}
 use Rattle.omnistat.specs.Message.{Message, setFrom, dataFrom, group, asRun, asMessage, bodyOf}
 use Rattle.omnistat.specs.Omnistat.{Addressed, addressed, read, writeBytes}
 use Rattle.omnistat.specs.Answer.{requestIn, replyIn}
-use Rattle.omnistat.specs.Parts.{runIn, Says}
-use Rattle.omnistat.proofs.Laws.Outcome.{same-accepted, passed-not, then-accepted}
+use Rattle.omnistat.specs.Parts.{runIn, Says, passed}
+use Rattle.omnistat.proofs.Laws.Outcome.{same-accepted, passed-not, then-accepted, heard-twice}
 use Rattle.omnistat.proofs.Laws.Message.{run-natural}
 use Rattle.omnistat.proofs.Laws.Omnistat.{write-after-read}
 use Rattle.omnistat.proofs.Laws.Typed.{again}
@@ -54,6 +54,15 @@ module _ (s payload : List ℕ) (n : ℕ) (e : payload ≡ take n (drop 2 s)) wh
 
   pub reply-in : (r : ReplyAnswer) (o : Outcome (Addressed (Message Host))) → Says replyIn payload r o → replyIn s r ≡ o
   reply-in = in-message replyIn reply-after s payload n e
+
+-- only whether it is accepted, by the answer's case
+pub checked : {A M : Type 0} (reading : List ℕ → A → Outcome (Addressed M)) (payload : List ℕ) (r q : A) (o : Outcome M)
+    → Says reading payload r (onAccepted (addressed 0) o) → r ≡ q
+    → onAccepted passed (reading (0 ∷ 0 ∷ (payload ++ [])) q) ≡ onAccepted passed o
+checked {A = A} reading payload r q o says k =
+    ap (λ (x : A). onAccepted passed (reading (0 ∷ 0 ∷ (payload ++ [])) x)) (sym k)
+    ∙ ap (onAccepted passed) (says [])
+    ∙ heard-twice (addressed 0) passed o
 
 -- a run that was read is made into a message
 pub run-made : {M : Type 0} (address : ℕ) (make : ℕ → List ℕ → M) (payload : List ℕ) (r : Run)

@@ -13,7 +13,7 @@ use Rattle.omnistat.specs.declared.group.Group.{Group}
 use Rattle.omnistat.specs.declared.frame.End.the-variants.{Thermostat, Host}
 use Rattle.omnistat.specs.Register.{within, runAllowed}
 use Rattle.omnistat.specs.Group.{pollType, replyType, replyLength, groupOf}
-use Rattle.omnistat.specs.Message.{Message, poll, setFrom, pollGroup, acknowledge, negative, dataFrom, group, ofLength, asPoll, asRun, asMessage}
+use Rattle.omnistat.specs.Message.{poll, setFrom, pollGroup, acknowledge, negative, dataFrom, group, ofLength, asPoll, asRun, asMessage}
 
 module _ (lo hi n : ℕ) where
   pub too-low : n < lo → within lo hi n ≡ false

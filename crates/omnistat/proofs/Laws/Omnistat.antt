@@ -1,8 +1,8 @@
 -- Reading and writing at both ends undo each other. Assumes nothing.
 use mathlib.Core.Path.{_≡_, refl, sym, ap, _∙_, subst}
 use mathlib.Core.Bool.{Bool, true, false, not}
-use mathlib.Core.List.{List, [], _∷_}
-use Prim.Native.Nat.{ℕ, _+_, _-_, _≤_, _<_}
+use mathlib.Core.List.{List, _∷_}
+use Prim.Native.Nat.{ℕ, _+_, _≤_, _<_}
 use native.Mathlib.Omega.{arith}
 use lib.Dec.{leb}
 use lib.ListN.{length}
@@ -14,7 +14,7 @@ use Rattle.omnistat.specs.Frame.{Frame, framed, frame, directed, address
 use Rattle.omnistat.specs.Message.{Message, setFrom, dataFrom, asMessage, bodyOf}
 use Rattle.omnistat.specs.Omnistat.{Addressed, addressed, read, write, writeBytes}
 use Rattle.omnistat.specs.Parts.{passed}
-use Rattle.omnistat.proofs.Laws.Outcome.{never, same-accepted, passed-not, then-accepted, on-accepted, still-refused}
+use Rattle.omnistat.proofs.Laws.Outcome.{same-accepted, passed-not, then-accepted, on-accepted, still-refused}
 use Rattle.omnistat.proofs.Laws.Frame.{taken-apart, read-back}
 use Rattle.omnistat.proofs.Laws.Message.{too-low, too-high, inside, within-both, run-long}
 use Rattle.omnistat.proofs.Laws.Typed.{told, kind-fits, again}

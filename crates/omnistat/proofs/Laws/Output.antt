@@ -1,13 +1,13 @@
 -- What the frame writer leaves in the output, step by step. Assumes nothing.
-use mathlib.Core.Path.{_≡_, refl, sym, ap, _∙_, subst}
+use mathlib.Core.Path.{_≡_, sym, ap, _∙_, subst}
 use mathlib.Core.List.{List, [], _∷_, _++_}
 use Prim.Native.Nat.{ℕ, suc, _+_, _*_, _≤_, _<_}
 use native.Mathlib.Omega.{arith}
 use lib.ListN.{length, take, drop, set, length-append}
 use lib.Seq.{paste, take-length, take-at, take-paste}
 use Rattle.answer.specs.Answer.{Outcome, refused, accepted, inRoom, outAfter, onAccepted}
-use Rattle.answer.proofs.Laws.Output.{begun, put-next, no-room, with-room}
-use Rattle.omnistat.specs.Frame.{Frame, framed, sumOf, bytesOf}
+use Rattle.answer.proofs.Laws.Output.{begun, put-next}
+use Rattle.omnistat.specs.Frame.{framed, sumOf, bytesOf}
 
 -- the two bytes before the data bytes, then these
 pub data-placed : (a b : ℕ) (p old : List ℕ) → 2 ≤ length old → paste (set (set old 0 a) 1 b) 2 p (length p) ≡ begun (a ∷ b ∷ p) old

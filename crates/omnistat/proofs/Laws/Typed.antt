@@ -1,14 +1,14 @@
 -- A message's type and data bytes name exactly that message. Assumes nothing.
 use mathlib.Core.Path.{_≡_, refl, sym, ap, _∙_, subst}
-use mathlib.Core.Bool.{Bool, true, not, cond, _&&_}
+use mathlib.Core.Bool.{not, cond, _&&_}
 use mathlib.Core.List.{List, [], _∷_}
-use mathlib.Core.Logic.{_⊎_, ⊎-elim}
+use mathlib.Core.Logic.{⊎-elim}
 use Prim.Native.Nat.{ℕ, _<_, _≤_}
 use native.Mathlib.Omega.{arith}
 use lib.Dec.{eqb}
 use lib.ListN.{length}
 use borrow.Author.Tests.{eqb-true}
-use Rattle.answer.specs.Answer.{Outcome, refused, accepted, refuseIf, andThen}
+use Rattle.answer.specs.Answer.{Outcome, refused, accepted, refuseIf}
 use Rattle.omnistat.specs.declared.group.Group.{Group}
 use Rattle.omnistat.specs.declared.group.Group.the-variants.{First, Second, Third}
 use Rattle.omnistat.specs.declared.frame.End.{End}

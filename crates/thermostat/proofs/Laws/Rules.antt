@@ -4,13 +4,13 @@ use mathlib.Core.Bool.{Bool, true, false, not, _&&_, _||_, or-false}
 use native.Mathlib.Omega.{arith}
 use mathlib.Core.List.{List, [], _∷_}
 use Prim.Native.Nat.{ℕ, _<_, _≤_}
-use lib.Dec.{T, eqb, leb, ltb}
+use lib.Dec.{T, eqb, leb}
 use lib.ListN.{length, getD}
-use borrow.Author.Tests.{eqb-true, eqb-false, leb-true, leb-false, le-leb, lt-leb, eq-eqb, ne-eqb}
+use borrow.Author.Tests.{eqb-true, eqb-false, leb-true, leb-false, le-leb, lt-leb, ne-eqb}
 use Rattle.omnistat.specs.Register.{within}
 use Rattle.thermostat.specs.Registers.{Range, inAny, listed, readOnly, allowed, settable}
 use Rattle.thermostat.specs.Parts.{takes, flag, lowest, highest, writableFlag, lowOf, highOf, States}
-use Rattle.thermostat.proofs.Laws.Table.{every, at, each, below, holds, both-left, both-right}
+use Rattle.thermostat.proofs.Laws.Table.{every, at, below, holds, both-left, both-right}
 
 -- the computed test: each entry is what is stated of its place
 abbrev pub stated : (ℕ → ℕ) → List ℕ → Bool

@@ -7,7 +7,7 @@ use native.Mathlib.Omega.{arith}
 use lib.ListN.{length, take, drop, length-drop}
 use lib.Seq.{length-take-le}
 use native.Mathlib.Nat.{add-sub-cancel-left}
-use lib.Dec.{eqb, leb, ltb}
+use lib.Dec.{eqb, leb}
 use borrow.Author.Tests.{le-leb, lt-leb, leb-true, eq-eqb, ne-eqb, lt-ltb, le-ltb}
 use Rattle.answer.specs.Answer.{Outcome, refused, accepted, refuseIf, onAccepted, inRoom, outAfter}
 use Rattle.answer.proofs.Laws.Output.{with-room}
@@ -16,14 +16,14 @@ use Rattle.omnistat.specs.declared.group.Group.the-variants.{First, Second, Thi
 use Rattle.omnistat.specs.declared.frame.End.the-variants.{Thermostat, Host}
 use Rattle.omnistat.specs.Register.{within, runAllowed}
 use Rattle.omnistat.specs.Frame.{directed, firstOf}
-use Rattle.omnistat.specs.Message.{Request, Reply, poll, setFrom, acknowledge, negative, dataFrom, group, asMessage, bodyOf}
+use Rattle.omnistat.specs.Message.{Request, Reply, poll, setFrom, pollGroup, acknowledge, negative, dataFrom, group, asMessage, bodyOf}
 use Rattle.omnistat.specs.Omnistat.{Addressed, addressed, read, write, writeBytes}
 use Rattle.omnistat.proofs.Laws.Outcome.{passed-not}
 use Rattle.omnistat.proofs.Laws.Message.{and-parts, within-both}
 use Rattle.omnistat.proofs.Laws.Heard.{message-read}
 use Rattle.omnistat.proofs.Laws.Output.{bytes-length}
 use Rattle.omnistat.proofs.Laws.Typed.{told}
-use Rattle.thermostat.specs.Map.{contents, run, stored}
+use Rattle.thermostat.specs.Map.{contents, run}
 use Rattle.thermostat.proofs.Laws.Map.{contents-run}
 use Rattle.thermostat.specs.Step.{isFor, allSettable, allListed, registersOf, replyTo, changed, replyBytes, sentBy, mapAfter, Done, done, step, mapOf, sentOf}
 
@@ -79,6 +79,11 @@ module _ (own : ℕ) (l : 1 ≤ own) (h : own ≤ 127) (old : List ℕ) (b : 18 
   replied q reply k e w out p =
       let i = in-room reply e ∙ ap (λ (x : Reply). accepted (replyBytes own x)) (sym k) in
       (p .0 ∙ ap (λ (o : Outcome (List ℕ)). onAccepted length o) i, p .1 ∙ ap (λ (o : Outcome (List ℕ)). outAfter o old) i)
+
+-- a group known by its name
+pub group-sends : (own : ℕ) (m old : List ℕ) (g h : Group) → g ≡ h → (w : Outcome ℕ) (out : List ℕ)
+    → Sends old (replyBytes own (replyTo m (pollGroup h))) w out → Sends old (replyBytes own (replyTo m (pollGroup g))) w out
+group-sends own m old g h e w out p = subst (λ (x : Group). Sends old (replyBytes own (replyTo m (pollGroup x))) w out) (sym e) p
 
 -- ---- a poll
 
@@ -217,19 +222,13 @@ module _ (own : ℕ) (m s : List ℕ) (room : ℕ) where
 abbrev pub Promise : Outcome Done → Outcome ℕ → List ℕ → List ℕ → List ℕ → List ℕ → Type 0
 Promise o w m map old out = (w ≡ onAccepted length (sentOf o)) × ((map ≡ mapOf o m) × (out ≡ outAfter (sentOf o) old))
 
-pub when-refused : (o : Outcome Done) (n : ℕ) (m old : List ℕ) → o ≡ refused n → Promise o (refused n) m m old old
-when-refused o n m old e = (
-  ap (λ (x : Outcome Done). onAccepted length (sentOf x)) (sym e),
-  (ap (λ (x : Outcome Done). mapOf x m) (sym e), ap (λ (x : Outcome Done). outAfter (sentOf x) old) (sym e)),
-)
+module _ (own : ℕ) (m s old : List ℕ) where
+  pub when-refused : (n : ℕ) → step own m s (length old) ≡ refused n → Promise (step own m s (length old)) (refused n) m m old old
+  when-refused n e = subst (λ (o : Outcome Done). Promise o (refused n) m m old old) (sym e) (refl, (refl, refl))
 
-pub when-done : (o : Outcome Done) (own : ℕ) (q : Addressed Request) (w : Outcome ℕ) (m map old out : List ℕ) → o ≡ accepted (done own m q)
-    → w ≡ accepted (length (sentBy own m q)) → map ≡ mapAfter own m q → out ≡ outAfter (accepted (sentBy own m q)) old
-    → Promise o w m map old out
-when-done o own q w m map old out e a b d = (
-  a ∙ ap (λ (x : Outcome Done). onAccepted length (sentOf x)) (sym e),
-  (b ∙ ap (λ (x : Outcome Done). mapOf x m) (sym e), d ∙ ap (λ (x : Outcome Done). outAfter (sentOf x) old) (sym e)),
-)
+  pub when-done : (q : Addressed Request) (w : Outcome ℕ) (map out : List ℕ) → step own m s (length old) ≡ accepted (done own m q)
+      → map ≡ mapAfter own m q → Sends old (sentBy own m q) w out → Promise (step own m s (length old)) w m map old out
+  when-done q w map out e b p = subst (λ (o : Outcome Done). Promise o w m map old out) (sym e) (p .0, (b, p .1))
 
 -- a message that sets nothing leaves the map
 pub only-sets : (own : ℕ) (m : List ℕ) (first : ℕ) (q : Request) → changed m q ≡ m → m ≡ mapAfter own m (addressed first q)

@@ -1,6 +1,6 @@
 -- Temperatures: each byte's is exact, and the way back finds the one byte that can be meant. Every test over the 256 bytes is computed. Assumes nothing.
 use mathlib.Core.Path.{_≡_, refl, sym, ap, _∙_, subst}
-use mathlib.Core.Bool.{Bool, true, false, not, cond, _&&_, _||_, Bool·beq}
+use mathlib.Core.Bool.{Bool, true, false, not, cond, _&&_, _||_}
 use mathlib.Core.List.{List, [], _∷_}
 use mathlib.Core.Logic.{_⊎_, inl, inr, ⊎-elim}
 use Prim.Native.Nat.{ℕ, zero, suc, _+_, _-_, _*_, _<_, _≤_}
@@ -8,13 +8,13 @@ use native.Mathlib.Nat.{add-zero, zero-add, add-suc, suc-add, le-of-suc-le-suc, 
 use native.Mathlib.Omega.{arith}
 use lib.Dec.{T, eqb, ltb}
 use lib.Count.{trailingZeros}
-use lib.IntN.{ℤ, pos, negsuc}
+use lib.IntN.{pos}
 use lib.Ieee.{Float, nan, inf, fin, binary32, up, down, level, round, size, span, climb, units, odd, mul, sub, add, neg, sum, ofInt, ofBits, ofFields, lt, eq, toUnsigned, fits}
 use lib.Ieee.Fits.{round-fits}
 use borrow.Author.Tests.{eqb-true}
 use Rattle.answer.specs.Answer.{Outcome, refused, accepted}
 use Rattle.thermostat.specs.Temperature.{celsius, firstEqual, byteOf}
-use Rattle.thermostat.proofs.Laws.Table.{below, each, holds, both-left, both-right}
+use Rattle.thermostat.proofs.Laws.Table.{below, holds, both-left, both-right}
 use Rattle.thermostat.proofs.Laws.Float.{equal, zeroOf}
 
 -- ---- two functions that give the same at every byte, by a computed list of their values
