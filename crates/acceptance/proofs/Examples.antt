@@ -10,7 +10,7 @@ use Rattle.crc.specs.Crc.{crc, feed}
 use Rattle.link.specs.Frame.{readFrame, readBody}
 use Rattle.message.specs.Message.{readMessage, messageOf, plainListed, plainOf, readPlain}
 use Rattle.omnistat.specs.Frame.{frame, total, bytesOf}
-use Rattle.omnistat.specs.Message.{asRequest}
+use Rattle.omnistat.specs.Message.{asMessage}
 use Rattle.omnistat.specs.Omnistat.{read}
 use Rattle.omnistat.specs.Register.{runAllowed}
 use Rattle.thermostat.specs.Registers.{listed, readOnly, allowed}
@@ -30,7 +30,7 @@ a and b = (a, b)
 
 pub marked-examples : Marked-examples
 unfolding Holds crc feed readFrame readBody readMessage messageOf plainListed plainOf readPlain
-    read frame total bytesOf asRequest runAllowed listed readOnly allowed stored allSettable sentBy mapAfter step
+    read frame total bytesOf asMessage runAllowed listed readOnly allowed stored allSettable sentBy mapAfter step
     cost tooLarge millionths power readPattern writePattern readKey standard spelled codeAt indexOf houseCode unitCode
 marked-examples map room whole fits =
     let present : 59 < length map = omega arith in

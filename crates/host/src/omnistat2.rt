@@ -1,11 +1,12 @@
 // Omnistat2 messages, for C.
 ghost use mathlib.Core.Path.{_≡_};
-ghost use mathlib.Core.List.{[], _∷_};
+ghost use mathlib.Core.List.{List, [], _∷_};
+ghost use Prim.Native.Nat.{ℕ};
 ghost use lib.ListN.{length};
 ghost use Rattle.answer.specs.Answer.{onAccepted, inRoom, outAfter};
 ghost use Rattle.answer.specs.Packed.{packed, word};
 ghost use Rattle.omnistat.specs.Omnistat.{read, writeBytes};
-ghost use Rattle.omnistat.specs.Answer.{requestOf, requestFields, replyOf, replyFields, onMessage, countedRequest, countedReply};
+ghost use Rattle.omnistat.specs.Answer.{requestIn, replyIn, fields};
 use omnistat::frame::End;
 use omnistat::reply::ACKNOWLEDGE;
 use omnistat::reply::DATA;
@@ -15,9 +16,9 @@ use omnistat::request::POLL;
 use omnistat::request::Request;
 use omnistat::request::SET;
 
-// A packed request: type, first byte, start and count.
+// A packed request, read from any bytes: type, first byte, start and count.
 fn pack_request(r: Request) -> u64
-    ensures { λ n. ⌜ n ≡ packed (onAccepted requestFields (requestOf r)) ⌝ }
+    ensures { λ n. ⌜ ((s : List ℕ) → requestIn s r ≡ read End.Thermostat s → n ≡ packed (onAccepted (fields End.Thermostat) (read End.Thermostat s))) ⌝ }
 {
     match r {
         Request::Refused(e) => answer::pack_refusal(e),
@@ -40,9 +41,9 @@ fn pack_request(r: Request) -> u64
     }
 }
 
-// A packed reply: type, number, start and count of values.
+// A packed reply, read from any bytes: type, number, start and count of values.
 fn pack_reply(r: Reply) -> u64
-    ensures { λ n. ⌜ n ≡ packed (onAccepted replyFields (replyOf r)) ⌝ }
+    ensures { λ n. ⌜ ((s : List ℕ) → replyIn s r ≡ read End.Host s → n ≡ packed (onAccepted (fields End.Host) (read End.Host s))) ⌝ }
 {
     match r {
         Reply::Refused(e) => answer::pack_refusal(e),
@@ -64,7 +65,7 @@ fn pack_reply(r: Reply) -> u64
 // Reads a message at the thermostat.
 #[no_mangle]
 pub extern "C" fn omnistat_read_at_thermostat(bytes: &[u8]) -> u64
-    ensures { λ n. ⌜ n ≡ packed (onAccepted requestFields (onAccepted (onMessage countedRequest) (read End.Thermostat (now (bytes .entry))))) ⌝ }
+    ensures { λ n. ⌜ n ≡ packed (onAccepted (fields End.Thermostat) (read End.Thermostat (now (bytes .entry)))) ⌝ }
 {
     pack_request(omnistat::request::read(bytes))
 }
@@ -72,7 +73,7 @@ pub extern "C" fn omnistat_read_at_thermostat(bytes: &[u8]) -> u64
 // Reads a message at the host.
 #[no_mangle]
 pub extern "C" fn omnistat_read_at_host(bytes: &[u8]) -> u64
-    ensures { λ n. ⌜ n ≡ packed (onAccepted replyFields (onAccepted (onMessage countedReply) (read End.Host (now (bytes .entry))))) ⌝ }
+    ensures { λ n. ⌜ n ≡ packed (onAccepted (fields End.Host) (read End.Host (now (bytes .entry)))) ⌝ }
 {
     pack_reply(omnistat::reply::read(bytes))
 }

@@ -19,29 +19,10 @@ abbrev pub addressOf : End → ℕ → ℕ
 addressOf Thermostat first = first
 addressOf Host first = first - 0x80
 
--- to a writer: what a message to that end may carry
-abbrev pub addressable : End → ℕ → Bool
-addressable Thermostat address = directed Thermostat address
-addressable Host number = within 0x01 0x7F number
-
 -- the first byte of a message to that end
 abbrev pub firstOf : End → ℕ → ℕ
 firstOf Thermostat address = address
 firstOf Host number = number + 0x80
-
--- the second byte: N in the high half, the type in the low half
-abbrev pub lengthHalf : ℕ → ℕ
-lengthHalf second = second / 16
-
-abbrev pub typeHalf : ℕ → ℕ
-typeHalf second = second % 16
-
-abbrev pub halves : ℕ → ℕ → ℕ
-halves n kind = n * 16 + kind
-
--- the counted length of a whole message, by its second byte: the two bytes before the data, N data bytes, the sum
-abbrev pub countedLength : ℕ → ℕ
-countedLength second = lengthHalf second + 3
 
 -- all bytes added up
 unfoldable pub total : List ℕ → ℕ
@@ -61,20 +42,21 @@ pub record Frame : Type 0 where
 abbrev pub framed : ℕ → ℕ → List ℕ → Frame
 framed first kind payload = record { first = first; kind = kind; payload = payload }
 
--- the order of the checks: empty 1; direction 2; one byte 1; fewer than N+3 bytes 1; more 4; sum 5
+-- N is the high half of the second byte, the type the low half. The order of the checks: empty 1; direction 2; one byte 1; fewer than N+3
+-- bytes 1; more 4; sum 5
 unfoldable pub frame : End → List ℕ → Outcome Frame
 frame end [] = refused 1
 frame end (first ∷ []) = refuseIf (not (directed end first)) 2 (refused 1)
 frame end (first ∷ second ∷ rest) =
     refuseIf (not (directed end first)) 2
-    (refuseIf (ltb (length (first ∷ second ∷ rest)) (countedLength second)) 1
-    (refuseIf (ltb (countedLength second) (length (first ∷ second ∷ rest))) 4
-    (refuseIf (not (eqb (getD rest (lengthHalf second) 0) (sumOf (first ∷ second ∷ take (lengthHalf second) rest)))) 5
-    (accepted (framed first (typeHalf second) (take (lengthHalf second) rest))))))
+    (refuseIf (ltb (length (first ∷ second ∷ rest)) (second / 16 + 3)) 1
+    (refuseIf (ltb (second / 16 + 3) (length (first ∷ second ∷ rest))) 4
+    (refuseIf (not (eqb (getD rest (second / 16) 0) (sumOf (first ∷ second ∷ take (second / 16) rest)))) 5
+    (accepted (framed first (second % 16) (take (second / 16) rest))))))
 
 -- a message's bytes: the sum follows all earlier bytes
 abbrev pub summed : List ℕ → List ℕ
 summed bytes = bytes ++ (sumOf bytes ∷ [])
 
 unfoldable pub bytesOf : Frame → List ℕ
-bytesOf f = summed (f .first ∷ halves (length (f .payload)) (f .kind) ∷ f .payload)
+bytesOf f = summed (f .first ∷ (length (f .payload) * 16 + f .kind) ∷ f .payload)

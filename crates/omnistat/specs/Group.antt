@@ -2,10 +2,9 @@
 use Prim.Native.Nat.{ℕ}
 use mathlib.Core.Bool.{cond}
 use lib.Dec.{eqb}
+use Rattle.answer.specs.Answer.{Outcome, refused, accepted}
 use Rattle.omnistat.specs.declared.group.Group.{Group}
 use Rattle.omnistat.specs.declared.group.Group.the-variants.{First, Second, Third}
-use Rattle.omnistat.specs.declared.group.Named.{Named}
-use Rattle.omnistat.specs.declared.group.Named.the-variants.{Of, Unknown}
 
 -- the type of the poll of a group
 abbrev pub pollType : Group → ℕ
@@ -25,17 +24,10 @@ replyLength First = 6
 replyLength Second = 6
 replyLength Third = 10
 
--- the group whose type this is
-abbrev pub namedBy : (Group → ℕ) → ℕ → Named
-namedBy type kind =
-    cond (eqb kind (type First)) (Of First)
-    (cond (eqb kind (type Second)) (Of Second)
-    (cond (eqb kind (type Third)) (Of Third)
-    Unknown))
-
--- the group whose poll, or whose reply, has this type
-abbrev pub polledBy : ℕ → Named
-polledBy kind = namedBy pollType kind
-
-abbrev pub repliedBy : ℕ → Named
-repliedBy kind = namedBy replyType kind
+-- the group whose message has this type; every other type is 6
+abbrev pub groupOf : (Group → ℕ) → ℕ → Outcome Group
+groupOf type kind =
+    cond (eqb kind (type First)) (accepted First)
+    (cond (eqb kind (type Second)) (accepted Second)
+    (cond (eqb kind (type Third)) (accepted Third)
+    (refused 6)))

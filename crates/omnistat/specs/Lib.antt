@@ -5,3 +5,4 @@ pub mod Frame
 pub mod Message
 pub mod Omnistat
 pub mod Answer
+pub mod Parts

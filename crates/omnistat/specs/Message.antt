@@ -1,120 +1,81 @@
 -- Document 01, "Omnistat2 messages": what a type and its data bytes say. Refusals in the order 6, 7, 8.
 use Prim.Native.Nat.{ℕ}
-use mathlib.Core.Bool.{Bool, not, cond}
+use mathlib.Core.Bool.{not, cond, _&&_}
 use mathlib.Core.List.{List, [], _∷_}
 use lib.ListN.{length}
 use lib.Dec.{eqb}
-use Rattle.answer.specs.Answer.{Outcome, refused, accepted, refuseIf}
+use Rattle.answer.specs.Answer.{Outcome, refused, accepted, refuseIf, andThen}
 use Rattle.omnistat.specs.Register.{within, runAllowed}
-use Rattle.omnistat.specs.Group.{pollType, replyType, replyLength, polledBy, repliedBy}
+use Rattle.omnistat.specs.Group.{pollType, replyType, replyLength, groupOf}
 use Rattle.omnistat.specs.declared.group.Group.{Group}
-use Rattle.omnistat.specs.declared.group.Named.{Named}
-use Rattle.omnistat.specs.declared.group.Named.the-variants.{Of, Unknown}
+use Rattle.omnistat.specs.declared.frame.End.{End}
+use Rattle.omnistat.specs.declared.frame.End.the-variants.{Thermostat, Host}
 
--- what the host sends: a poll of count registers from a start, a set of registers from a start, a poll of a group. A is what stands for the
--- values: their list in a message, their count in what a reader hands back
-pub data Request (A : Type 0) : Type 0 where
-  poll : ℕ → ℕ → Request A
-  setFrom : ℕ → A → Request A
-  pollGroup : Group → Request A
+-- what the host sends: a poll of count registers from a start, a set of registers from a start to values, a poll of a group
+pub data Request : Type 0 where
+  poll : ℕ → ℕ → Request
+  setFrom : ℕ → List ℕ → Request
+  pollGroup : Group → Request
 
--- what a thermostat replies: acknowledge, negative, the contents of registers from a start, a group
-pub data Reply (A : Type 0) : Type 0 where
-  acknowledge : Reply A
-  negative : Reply A
-  dataFrom : ℕ → A → Reply A
-  group : Group → A → Reply A
+-- what a thermostat replies: acknowledge, negative, the contents of registers from a start, those of a group
+pub data Reply : Type 0 where
+  acknowledge : Reply
+  negative : Reply
+  dataFrom : ℕ → List ℕ → Reply
+  group : Group → List ℕ → Reply
 
--- the types of the messages, from the host and back
-abbrev pub pollKind : ℕ
-pollKind = 0
+-- what is read at each end
+abbrev pub Message : End → Type 0
+Message Thermostat = Request
+Message Host = Reply
 
-abbrev pub setKind : ℕ
-setKind = 1
-
-abbrev pub acknowledgeKind : ℕ
-acknowledgeKind = 0
-
-abbrev pub negativeKind : ℕ
-negativeKind = 1
-
-abbrev pub dataKind : ℕ
-dataKind = 2
-
--- the most registers that one message polls, sets or returns
-abbrev pub mostValues : ℕ
-mostValues = 14
-
--- N=0, else 7
-abbrev pub asBare : {M : Type 0} → M → List ℕ → Outcome M
-asBare m [] = accepted m
-asBare m (b ∷ payload) = refused 7
+-- n data bytes, else 7
+abbrev pub ofLength : {M : Type 0} → ℕ → List ℕ → M → Outcome M
+ofLength n payload m = refuseIf (not (eqb (length payload) n)) 7 (accepted m)
 
 -- N=2, else 7: start, and count 1-14 of a run that is allowed, else 8
-abbrev pub asPoll : List ℕ → Outcome (Request (List ℕ))
+abbrev pub asPoll : List ℕ → Outcome Request
 asPoll [] = refused 7
 asPoll (start ∷ []) = refused 7
-asPoll (start ∷ count ∷ []) =
-    refuseIf (not (within 1 mostValues count)) 8
-    (refuseIf (not (runAllowed start count)) 8
-    (accepted (poll start count)))
+asPoll (start ∷ count ∷ []) = refuseIf (not (within 1 14 count && runAllowed start count)) 8 (accepted (poll start count))
 asPoll (start ∷ count ∷ b ∷ payload) = refused 7
 
 -- N=2-15, else 7: start and values, of a run that is allowed, else 8
 abbrev pub asRun : {M : Type 0} → (ℕ → List ℕ → M) → List ℕ → Outcome M
 asRun make [] = refused 7
 asRun make (start ∷ values) =
-    refuseIf (not (within 1 mostValues (length values))) 7
+    refuseIf (not (within 1 14 (length values))) 7
     (refuseIf (not (runAllowed start (length values))) 8
     (accepted (make start values)))
 
--- as many values as the group has, else 7
-abbrev pub asGroup : Group → List ℕ → Outcome (Reply (List ℕ))
-asGroup g values = refuseIf (not (eqb (length values) (replyLength g))) 7 (accepted (group g values))
+-- from the host: poll, set, the polls of the groups. Replies: acknowledge, negative, data, the groups. Every other type is 6
+unfoldable pub asMessage : (end : End) → ℕ → List ℕ → Outcome (Message end)
+asMessage Thermostat kind payload =
+    cond (eqb kind 0) (asPoll payload)
+    (cond (eqb kind 1) (asRun setFrom payload)
+    (andThen (groupOf pollType kind) (λ g. ofLength 0 payload (pollGroup g))))
+asMessage Host kind payload =
+    cond (eqb kind 0) (ofLength 0 payload acknowledge)
+    (cond (eqb kind 1) (ofLength 0 payload negative)
+    (cond (eqb kind 2) (asRun dataFrom payload)
+    (andThen (groupOf replyType kind) (λ g. ofLength (replyLength g) payload (group g payload)))))
 
--- from the host: poll, set, the polls of the three groups; every other type is 6
-abbrev pub asGroupPoll : Named → List ℕ → Outcome (Request (List ℕ))
-asGroupPoll (Of g) payload = asBare (pollGroup g) payload
-asGroupPoll Unknown payload = refused 6
+-- what a message carries: its type, its start register, the count of its registers or values, its data bytes; 0 for a start or count
+-- that it does not have
+pub record Body : Type 0 where
+  pub kind : ℕ
+  pub start : ℕ
+  pub count : ℕ
+  pub payload : List ℕ
 
-unfoldable pub asRequest : ℕ → List ℕ → Outcome (Request (List ℕ))
-asRequest kind payload =
-    cond (eqb kind pollKind) (asPoll payload)
-    (cond (eqb kind setKind) (asRun setFrom payload)
-    (asGroupPoll (polledBy kind) payload))
+abbrev pub body : ℕ → ℕ → ℕ → List ℕ → Body
+body kind start count payload = record { kind = kind; start = start; count = count; payload = payload }
 
--- replies: acknowledge, negative, data, the three groups; every other type is 6
-abbrev pub asGroupReply : Named → List ℕ → Outcome (Reply (List ℕ))
-asGroupReply (Of g) payload = asGroup g payload
-asGroupReply Unknown payload = refused 6
-
-unfoldable pub asReply : ℕ → List ℕ → Outcome (Reply (List ℕ))
-asReply kind payload =
-    cond (eqb kind acknowledgeKind) (asBare acknowledge payload)
-    (cond (eqb kind negativeKind) (asBare negative payload)
-    (cond (eqb kind dataKind) (asRun dataFrom payload)
-    (asGroupReply (repliedBy kind) payload)))
-
--- the type of each message
-abbrev pub requestKind : {A : Type 0} → Request A → ℕ
-requestKind (poll start count) = pollKind
-requestKind (setFrom start values) = setKind
-requestKind (pollGroup g) = pollType g
-
-abbrev pub replyKind : {A : Type 0} → Reply A → ℕ
-replyKind acknowledge = acknowledgeKind
-replyKind negative = negativeKind
-replyKind (dataFrom start values) = dataKind
-replyKind (group g values) = replyType g
-
--- the data bytes of each message
-abbrev pub requestPayload : Request (List ℕ) → List ℕ
-requestPayload (poll start count) = start ∷ count ∷ []
-requestPayload (setFrom start values) = start ∷ values
-requestPayload (pollGroup g) = []
-
-abbrev pub replyPayload : Reply (List ℕ) → List ℕ
-replyPayload acknowledge = []
-replyPayload negative = []
-replyPayload (dataFrom start values) = start ∷ values
-replyPayload (group g values) = values
+abbrev pub bodyOf : (end : End) → Message end → Body
+bodyOf Thermostat (poll start count) = body 0 start count (start ∷ count ∷ [])
+bodyOf Thermostat (setFrom start values) = body 1 start (length values) (start ∷ values)
+bodyOf Thermostat (pollGroup g) = body (pollType g) 0 0 []
+bodyOf Host acknowledge = body 0 0 0 []
+bodyOf Host negative = body 1 0 0 []
+bodyOf Host (dataFrom start values) = body 2 start (length values) (start ∷ values)
+bodyOf Host (group g values) = body (replyType g) 0 (length values) values

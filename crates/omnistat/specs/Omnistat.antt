@@ -2,28 +2,10 @@
 use Prim.Native.Nat.{ℕ}
 use mathlib.Core.Bool.{not}
 use mathlib.Core.List.{List}
-use Rattle.answer.specs.Answer.{Outcome, refused, accepted, refuseIf, onAccepted, andThen}
+use Rattle.answer.specs.Answer.{Outcome, accepted, refuseIf, onAccepted, andThen}
 use Rattle.omnistat.specs.declared.frame.End.{End}
-use Rattle.omnistat.specs.declared.frame.End.the-variants.{Thermostat, Host}
-use Rattle.omnistat.specs.Frame.{Frame, framed, frame, bytesOf, addressOf, addressable, firstOf}
-use Rattle.omnistat.specs.Message.{Request, Reply, asRequest, asReply, requestKind, replyKind, requestPayload, replyPayload}
-
--- what is read at each end
-abbrev pub Message : End → Type 0
-Message Thermostat = Request (List ℕ)
-Message Host = Reply (List ℕ)
-
-abbrev pub asMessage : (end : End) → ℕ → List ℕ → Outcome (Message end)
-asMessage Thermostat kind payload = asRequest kind payload
-asMessage Host kind payload = asReply kind payload
-
-abbrev pub kindOf : (end : End) → Message end → ℕ
-kindOf Thermostat m = requestKind m
-kindOf Host m = replyKind m
-
-abbrev pub payloadOf : (end : End) → Message end → List ℕ
-payloadOf Thermostat m = requestPayload m
-payloadOf Host m = replyPayload m
+use Rattle.omnistat.specs.Frame.{framed, frame, bytesOf, directed, addressOf, firstOf}
+use Rattle.omnistat.specs.Message.{Message, asMessage, bodyOf}
 
 -- a message with the first byte at the thermostat, or the number of the thermostat at the host
 pub record Addressed (M : Type 0) : Type 0 where
@@ -38,13 +20,13 @@ unfoldable pub read : (end : End) → List ℕ → Outcome (Addressed (Message e
 read end bytes =
     andThen (frame end bytes) (λ f. onAccepted (addressed (addressOf end (f .first))) (asMessage end (f .kind) (f .payload)))
 
--- a type number and data bytes to write: 6, 7, 8; the address is 8 too
+-- a type number and data bytes to write: 6, 7, 8; 8 too where its first byte is none of that end's, so that a reply carries 01 to 7F
 unfoldable pub writeBytes : (end : End) → ℕ → ℕ → List ℕ → Outcome (List ℕ)
 writeBytes end address kind payload =
     andThen (asMessage end kind payload)
-    (λ m. refuseIf (not (addressable end address)) 8
+    (λ m. refuseIf (not (directed end (firstOf end address))) 8
     (accepted (bytesOf (framed (firstOf end address) kind payload))))
 
 -- a typed message to write: its type and data bytes
 abbrev pub write : (end : End) → ℕ → Message end → Outcome (List ℕ)
-write end address m = writeBytes end address (kindOf end m) (payloadOf end m)
+write end address m = writeBytes end address (bodyOf end m .kind) (bodyOf end m .payload)

@@ -1,12 +1,12 @@
 // The frame of an Omnistat2 message: address byte, length and type, data bytes, sum.
 ghost use mathlib.Core.Path.{_≡_};
-ghost use Prim.Native.Nat.{_+_, _<_, _≤_};
+ghost use Prim.Native.Nat.{_+_, _/_, _<_, _≤_};
 ghost use lib.ListN.{length, getD, take, drop};
 ghost use lib.Dec.{eqb};
 ghost use lib.Seq.{paste};
 ghost use Rattle.answer.specs.Answer.{writtenOf, accepted, onAccepted, inRoom, outAfter};
-ghost use Rattle.omnistat.specs.Frame.{directed, countedLength, sumOf, frame, framed, bytesOf};
-ghost use Rattle.omnistat.specs.Answer.{framedIn};
+ghost use Rattle.omnistat.specs.Frame.{directed, sumOf, frame, framed, bytesOf};
+ghost use Rattle.omnistat.specs.Parts.{framedIn};
 use answer::Refusal;
 use answer::Written;
 
@@ -49,7 +49,7 @@ pub(crate) fn is_directed(end: End, first: u8) -> bool
 
 // The counted length of a whole message with this second byte.
 pub(crate) fn counted_length(second: u8) -> usize
-    ensures { λ r. ⌜ r ≡ countedLength second ⌝ }
+    ensures { λ r. ⌜ r ≡ second / 16 + 3 ⌝ }
 {
     (second / 16) as usize + 3
 }

@@ -1,6 +1,7 @@
 // The three groups of registers, the types of their messages and the lengths of their replies.
 ghost use mathlib.Core.Path.{_≡_};
-ghost use Rattle.omnistat.specs.Group.{pollType, replyType, replyLength, polledBy, repliedBy};
+ghost use Rattle.omnistat.specs.Group.{pollType, replyType, replyLength, groupOf};
+ghost use Rattle.omnistat.specs.Parts.{namedOf};
 
 pub enum Group {
     First,
@@ -49,7 +50,7 @@ pub(crate) fn reply_length(g: Group) -> u8
 
 // The group whose poll has this type.
 pub(crate) fn polled(kind: u8) -> Named
-    ensures { λ r. ⌜ r ≡ polledBy kind ⌝ }
+    ensures { λ r. ⌜ namedOf r ≡ groupOf pollType kind ⌝ }
 {
     if kind == poll_type(Group::First) {
         return Named::Of(Group::First);
@@ -65,7 +66,7 @@ pub(crate) fn polled(kind: u8) -> Named
 
 // The group whose reply has this type.
 pub(crate) fn replied(kind: u8) -> Named
-    ensures { λ r. ⌜ r ≡ repliedBy kind ⌝ }
+    ensures { λ r. ⌜ namedOf r ≡ groupOf replyType kind ⌝ }
 {
     if kind == reply_type(Group::First) {
         return Named::Of(Group::First);

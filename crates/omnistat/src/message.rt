@@ -5,7 +5,7 @@ ghost use Prim.Native.Nat.{_+_, _≤_};
 ghost use lib.ListN.{length, take};
 ghost use Rattle.omnistat.specs.Register.{runAllowed};
 ghost use Rattle.omnistat.specs.Message.{asRun};
-ghost use Rattle.omnistat.specs.Answer.{runOf, span};
+ghost use Rattle.omnistat.specs.Parts.{Says, runIn};
 use answer::Refusal;
 
 // The most values that one message sets or returns, and with the start register the most data bytes.
@@ -41,7 +41,7 @@ pub(crate) fn is_run(start: u8, count: u8) -> bool
 
 // The data bytes of a set or data message: a start register and 1 to 14 values.
 pub(crate) fn read_run(payload: &[u8]) -> Run
-    ensures { λ r. ⌜ runOf r ≡ asRun span (now (payload .entry)) ⌝ }
+    ensures { λ r. ⌜ Says runIn (now (payload .entry)) r (asRun (λ start values. (start, values)) (now (payload .entry))) ⌝ }
 {
     if payload.len() < 2 {
         return Run::Refused(Refusal::TypeLength);

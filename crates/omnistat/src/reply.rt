@@ -2,10 +2,12 @@
 ghost use mathlib.Core.Path.{_≡_};
 ghost use lib.ListN.{length, take, drop};
 ghost use Rattle.answer.specs.Answer.{onAccepted, inRoom, outAfter, writtenOf};
-ghost use Rattle.omnistat.specs.Message.{asRun, asBare, asGroup, asReply, acknowledge, negative, dataFrom, group as groupValues};
-ghost use Rattle.omnistat.specs.Omnistat.{read, write, writeBytes};
-ghost use Rattle.omnistat.specs.Frame.{addressable};
-ghost use Rattle.omnistat.specs.Answer.{replyOf, checkOf, passed, heardReply, onMessage, countedReply};
+ghost use Rattle.omnistat.specs.Message.{asRun, ofLength, asMessage, acknowledge, negative, dataFrom, group as groupValues};
+ghost use Rattle.omnistat.specs.Omnistat.{addressed, read, write, writeBytes};
+ghost use Rattle.omnistat.specs.Frame.{directed, firstOf};
+ghost use Rattle.omnistat.specs.Group.{replyLength};
+ghost use Rattle.omnistat.specs.Answer.{replyIn};
+ghost use Rattle.omnistat.specs.Parts.{Says, checkOf, passed};
 use crate::frame::End;
 use crate::frame::Framed;
 use crate::frame::REPLY;
@@ -40,7 +42,7 @@ pub enum Reply {
 
 // The data bytes of an acknowledge: none.
 pub(crate) fn as_acknowledge(number: u8, payload: &[u8]) -> Reply
-    ensures { λ r. ⌜ replyOf r ≡ onAccepted (heardReply number) (asBare acknowledge (now (payload .entry))) ⌝ }
+    ensures { λ r. ⌜ Says replyIn (now (payload .entry)) r (onAccepted (addressed number) (ofLength 0 (now (payload .entry)) acknowledge)) ⌝ }
 {
     if payload.len() != 0 {
         return Reply::Refused(Refusal::TypeLength);
@@ -50,7 +52,7 @@ pub(crate) fn as_acknowledge(number: u8, payload: &[u8]) -> Reply
 
 // The data bytes of a negative: none.
 pub(crate) fn as_negative(number: u8, payload: &[u8]) -> Reply
-    ensures { λ r. ⌜ replyOf r ≡ onAccepted (heardReply number) (asBare negative (now (payload .entry))) ⌝ }
+    ensures { λ r. ⌜ Says replyIn (now (payload .entry)) r (onAccepted (addressed number) (ofLength 0 (now (payload .entry)) negative)) ⌝ }
 {
     if payload.len() != 0 {
         return Reply::Refused(Refusal::TypeLength);
@@ -60,7 +62,7 @@ pub(crate) fn as_negative(number: u8, payload: &[u8]) -> Reply
 
 // The data bytes of a data message: start and values.
 pub(crate) fn as_data(number: u8, payload: &[u8]) -> Reply
-    ensures { λ r. ⌜ replyOf r ≡ onAccepted (heardReply number) (asRun dataFrom (now (payload .entry))) ⌝ }
+    ensures { λ r. ⌜ Says replyIn (now (payload .entry)) r (onAccepted (addressed number) (asRun dataFrom (now (payload .entry)))) ⌝ }
 {
     match crate::message::read_run(payload) {
         Run::Refused(r) => Reply::Refused(r),
@@ -74,7 +76,7 @@ pub(crate) fn as_data(number: u8, payload: &[u8]) -> Reply
 
 // The data bytes of a group: as many values as it has.
 pub(crate) fn as_group(number: u8, group: Group, payload: &[u8]) -> Reply
-    ensures { λ r. ⌜ replyOf r ≡ onAccepted (heardReply number) (asGroup group (now (payload .entry))) ⌝ }
+    ensures { λ r. ⌜ Says replyIn (now (payload .entry)) r (onAccepted (addressed number) (ofLength (replyLength group) (now (payload .entry)) (groupValues group (now (payload .entry))))) ⌝ }
 {
     let count = crate::group::reply_length(group);
     if payload.len() != count as usize {
@@ -89,7 +91,7 @@ pub(crate) fn as_group(number: u8, group: Group, payload: &[u8]) -> Reply
 
 // What a type and its data bytes say to the host.
 pub(crate) fn as_reply(number: u8, kind: u8, payload: &[u8]) -> Reply
-    ensures { λ r. ⌜ replyOf r ≡ onAccepted (heardReply number) (asReply kind (now (payload .entry))) ⌝ }
+    ensures { λ r. ⌜ Says replyIn (now (payload .entry)) r (onAccepted (addressed number) (asMessage End.Host kind (now (payload .entry)))) ⌝ }
 {
     if kind == ACKNOWLEDGE {
         return as_acknowledge(number, payload);
@@ -108,7 +110,7 @@ pub(crate) fn as_reply(number: u8, kind: u8, payload: &[u8]) -> Reply
 
 // Reads a message at the host. Every first byte above 80 is a reply from that number less 80.
 pub fn read(bytes: &[u8]) -> Reply
-    ensures { λ r. ⌜ replyOf r ≡ onAccepted (onMessage countedReply) (read End.Host (now (bytes .entry))) ⌝ }
+    ensures { λ r. ⌜ replyIn (now (bytes .entry)) r ≡ read End.Host (now (bytes .entry)) ⌝ }
 {
     match crate::frame::read(End::Host, bytes) {
         Framed::Refused(r) => Reply::Refused(r),
@@ -136,7 +138,7 @@ pub fn group_values(bytes: &[u8], count: u8) -> &[u8]
 
 // Whether a type and its data bytes are a reply.
 pub(crate) fn check(kind: u8, payload: &[u8]) -> Check
-    ensures { λ r. ⌜ checkOf r ≡ onAccepted passed (asReply kind (now (payload .entry))) ⌝ }
+    ensures { λ r. ⌜ checkOf r ≡ onAccepted passed (asMessage End.Host kind (now (payload .entry))) ⌝ }
 {
     match as_reply(0, kind, payload) {
         Reply::Refused(r) => Check::Refused(r),
@@ -157,7 +159,7 @@ pub(crate) fn check(kind: u8, payload: &[u8]) -> Check
 
 // Whether a reply may carry this number.
 pub(crate) fn is_number(number: u8) -> bool
-    ensures { λ r. ⌜ r ≡ addressable End.Host number ⌝ }
+    ensures { λ r. ⌜ r ≡ directed End.Host (firstOf End.Host number) ⌝ }
 {
     if number < FIRST_NUMBER {
         return false;

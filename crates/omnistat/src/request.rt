@@ -2,9 +2,10 @@
 ghost use mathlib.Core.Path.{_≡_};
 ghost use lib.ListN.{length, take, drop};
 ghost use Rattle.answer.specs.Answer.{onAccepted, inRoom, outAfter, writtenOf};
-ghost use Rattle.omnistat.specs.Message.{asPoll, asRun, asBare, asRequest, poll, setFrom, pollGroup};
-ghost use Rattle.omnistat.specs.Omnistat.{read, write, writeBytes};
-ghost use Rattle.omnistat.specs.Answer.{requestOf, checkOf, passed, heardRequest, onMessage, countedRequest};
+ghost use Rattle.omnistat.specs.Message.{asPoll, asRun, ofLength, asMessage, poll, setFrom, pollGroup};
+ghost use Rattle.omnistat.specs.Omnistat.{addressed, read, write, writeBytes};
+ghost use Rattle.omnistat.specs.Answer.{requestIn};
+ghost use Rattle.omnistat.specs.Parts.{Says, checkOf, passed};
 use crate::frame::End;
 use crate::frame::Framed;
 use crate::group::Group;
@@ -33,7 +34,7 @@ pub enum Request {
 
 // The data bytes of a poll: start and count.
 pub(crate) fn as_poll(first: u8, payload: &[u8]) -> Request
-    ensures { λ r. ⌜ requestOf r ≡ onAccepted (heardRequest first) (asPoll (now (payload .entry))) ⌝ }
+    ensures { λ r. ⌜ Says requestIn (now (payload .entry)) r (onAccepted (addressed first) (asPoll (now (payload .entry)))) ⌝ }
 {
     if payload.len() != 2 {
         return Request::Refused(Refusal::TypeLength);
@@ -58,7 +59,7 @@ pub(crate) fn as_poll(first: u8, payload: &[u8]) -> Request
 
 // The data bytes of a set: start and values.
 pub(crate) fn as_set(first: u8, payload: &[u8]) -> Request
-    ensures { λ r. ⌜ requestOf r ≡ onAccepted (heardRequest first) (asRun setFrom (now (payload .entry))) ⌝ }
+    ensures { λ r. ⌜ Says requestIn (now (payload .entry)) r (onAccepted (addressed first) (asRun setFrom (now (payload .entry)))) ⌝ }
 {
     match crate::message::read_run(payload) {
         Run::Refused(r) => Request::Refused(r),
@@ -72,7 +73,7 @@ pub(crate) fn as_set(first: u8, payload: &[u8]) -> Request
 
 // The data bytes of a group poll: none.
 pub(crate) fn as_group_poll(first: u8, group: Group, payload: &[u8]) -> Request
-    ensures { λ r. ⌜ requestOf r ≡ onAccepted (heardRequest first) (asBare (pollGroup group) (now (payload .entry))) ⌝ }
+    ensures { λ r. ⌜ Says requestIn (now (payload .entry)) r (onAccepted (addressed first) (ofLength 0 (now (payload .entry)) (pollGroup group))) ⌝ }
 {
     if payload.len() != 0 {
         return Request::Refused(Refusal::TypeLength);
@@ -82,7 +83,7 @@ pub(crate) fn as_group_poll(first: u8, group: Group, payload: &[u8]) -> Request
 
 // What a type and its data bytes say to a thermostat.
 pub(crate) fn as_request(first: u8, kind: u8, payload: &[u8]) -> Request
-    ensures { λ r. ⌜ requestOf r ≡ onAccepted (heardRequest first) (asRequest kind (now (payload .entry))) ⌝ }
+    ensures { λ r. ⌜ Says requestIn (now (payload .entry)) r (onAccepted (addressed first) (asMessage End.Thermostat kind (now (payload .entry)))) ⌝ }
 {
     if kind == POLL {
         return as_poll(first, payload);
@@ -98,7 +99,7 @@ pub(crate) fn as_request(first: u8, kind: u8, payload: &[u8]) -> Request
 
 // Reads a message at the thermostat.
 pub fn read(bytes: &[u8]) -> Request
-    ensures { λ r. ⌜ requestOf r ≡ onAccepted (onMessage countedRequest) (read End.Thermostat (now (bytes .entry))) ⌝ }
+    ensures { λ r. ⌜ requestIn (now (bytes .entry)) r ≡ read End.Thermostat (now (bytes .entry)) ⌝ }
 {
     match crate::frame::read(End::Thermostat, bytes) {
         Framed::Refused(r) => Request::Refused(r),
@@ -119,7 +120,7 @@ pub fn values(bytes: &[u8], count: u8) -> &[u8]
 
 // Whether a type and its data bytes are a message to a thermostat.
 pub(crate) fn check(kind: u8, payload: &[u8]) -> Check
-    ensures { λ r. ⌜ checkOf r ≡ onAccepted passed (asRequest kind (now (payload .entry))) ⌝ }
+    ensures { λ r. ⌜ checkOf r ≡ onAccepted passed (asMessage End.Thermostat kind (now (payload .entry))) ⌝ }
 {
     match as_request(0, kind, payload) {
         Request::Refused(r) => Check::Refused(r),

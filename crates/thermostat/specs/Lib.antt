@@ -3,3 +3,4 @@ pub mod Registers
 pub mod Temperature
 pub mod Map
 pub mod Step
+pub mod Parts

@@ -1,6 +1,6 @@
 -- Document 01, "Registers and the model thermostat": temperatures and setpoint pairs.
 use Prim.Native.Nat.{ℕ, zero, suc, _+_, _-_, _*_}
-use mathlib.Core.Bool.{Bool, cond}
+use mathlib.Core.Bool.{cond}
 use mathlib.Core.List.{List, [], _∷_}
 use lib.Dec.{ltb}
 use lib.IntN.{ℤ, pos, _-ℤ_}
@@ -9,19 +9,13 @@ use Rattle.answer.specs.Answer.{Outcome, refused, accepted, onAccepted, andThen
 use Rattle.answer.specs.Packed.{Field, byte}
 use Rattle.thermostat.specs.declared.temperature.Half.{Half}
 use Rattle.thermostat.specs.declared.temperature.Half.the-variants.{Byte, Refused as HalfRefused}
-use Rattle.thermostat.specs.declared.setpoints.Pair.{Pair as PairAnswer}
+use Rattle.thermostat.specs.declared.setpoints.Pair.{Pair}
 use Rattle.thermostat.specs.declared.setpoints.Pair.the-variants.{Bytes, Refused as PairRefused}
 
--- byte n is n/2 - 40 degrees Celsius, so n - 80 half degrees: below zero under 80, and this many
-abbrev pub belowZero : ℕ → Bool
-belowZero n = ltb n 80
-
-abbrev pub halves : ℕ → ℕ
-halves n = (n - 80) + (80 - n)
-
--- the f32 nearest to so many half degrees. The theorem `exact` says that it is that number itself
+-- byte n is n/2 - 40 degrees Celsius: n - 80 half degrees, below zero under 80. The f32 nearest to so many half degrees; the theorem `exact`
+-- says that it is that number itself
 unfoldable pub celsius : ℕ → Float
-celsius n = round binary32 (belowZero n) (halves n) 2
+celsius n = round binary32 (ltb n 80) ((n - 80) + (80 - n)) 2
 
 -- 9n - 400 tenths of a degree Fahrenheit
 abbrev pub fahrenheitTenths : ℕ → ℤ
@@ -41,23 +35,15 @@ abbrev pub halfOf : Half → Outcome ℕ
 halfOf (Byte n) = accepted n
 halfOf (HalfRefused r) = refused (numberOf r)
 
--- a setpoint pair as bytes: cool, then heat
-pub record Pair : Type 0 where
-  pub cool : ℕ
-  pub heat : ℕ
-
-abbrev pub pair : ℕ → ℕ → Pair
-pair cool heat = record { cool = cool; heat = heat }
-
--- either value bad is 8
-abbrev pub bytesOf : Float → Float → Outcome Pair
-bytesOf cool heat = andThen (byteOf cool) (λ c. onAccepted (λ h. pair c h) (byteOf heat))
+-- a setpoint pair as bytes: cool, then heat; either value bad is 8
+abbrev pub bytesOf : Float → Float → Outcome (ℕ × ℕ)
+bytesOf cool heat = andThen (byteOf cool) (λ c. onAccepted (λ h. (c, h)) (byteOf heat))
 
 -- what the code answers for a pair
-abbrev pub pairOf : PairAnswer → Outcome Pair
-pairOf (Bytes cool heat) = accepted (pair cool heat)
+abbrev pub pairOf : Pair → Outcome (ℕ × ℕ)
+pairOf (Bytes cool heat) = accepted (cool, heat)
 pairOf (PairRefused r) = refused (numberOf r)
 
 -- for C: cool byte, heat byte
-abbrev pub pairFields : Pair → List Field
-pairFields p = byte (p .cool) ∷ byte (p .heat) ∷ []
+abbrev pub pairFields : ℕ × ℕ → List Field
+pairFields p = byte (p .0) ∷ byte (p .1) ∷ []

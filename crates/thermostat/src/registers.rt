@@ -2,9 +2,10 @@
 ghost use mathlib.Core.Path.{_≡_};
 ghost use Prim.Native.Nat.{_+_, _<_, _≤_};
 ghost use lib.ListN.{length};
-ghost use Rattle.thermostat.specs.Registers.{listed, settable, takes, listedFlag, writableFlag, lowOf, highOf, States};
+ghost use Rattle.thermostat.specs.Registers.{listed, settable};
 ghost use Rattle.thermostat.specs.Map.{run};
 ghost use Rattle.thermostat.specs.Step.{allSettable, allListed};
+ghost use Rattle.thermostat.specs.Parts.{takes, listedFlag, writableFlag, lowOf, highOf, States};
 use crate::tables::HIGH;
 use crate::tables::LISTED;
 use crate::tables::LOW;

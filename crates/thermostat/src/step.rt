@@ -2,7 +2,7 @@
 ghost use mathlib.Core.Path.{_≡_};
 ghost use mathlib.Core.Bool.{true, cond};
 ghost use Prim.Native.Nat.{_+_, _<_, _≤_};
-ghost use lib.ListN.{length, take, drop};
+ghost use lib.ListN.{length, take};
 ghost use Rattle.answer.specs.Answer.{accepted, onAccepted, outAfter, writtenOf};
 ghost use Rattle.omnistat.specs.Register.{runAllowed};
 ghost use Rattle.omnistat.specs.Message.{poll, setFrom, pollGroup, acknowledge, negative};

@@ -1,104 +1,116 @@
--- From what a reader hands back to the message that was read, with its values: for the callers of the readers. Assumes nothing.
+-- What a reader answers, from the data bytes to the message that they stand in, and from the message back to the count of its values.
+-- Assumes nothing.
 use mathlib.Core.Path.{_≡_, refl, sym, ap, _∙_}
-use mathlib.Core.List.{List, [], _∷_, _++_}
-use Prim.Native.Nat.{ℕ}
-use native.Mathlib.Omega.{arith}
 use mathlib.Core.Bool.{not}
-use lib.ListN.{length, take, drop}
-use lib.Seq.{take-append-seam}
-use Rattle.answer.specs.Answer.{Outcome, refused, accepted, refuseIf, onAccepted}
+use mathlib.Core.List.{List, [], _∷_, _++_}
+use Prim.Native.Nat.{ℕ, zero, suc}
+use native.Mathlib.Omega.{arith}
+use lib.ListN.{length, take, drop, take-append-drop}
+use lib.Seq.{drop-drop}
+use Rattle.answer.specs.Answer.{Outcome, accepted, refuseIf, onAccepted}
 use Rattle.omnistat.specs.declared.group.Group.{Group}
 use Rattle.omnistat.specs.declared.frame.End.{End}
 use Rattle.omnistat.specs.declared.frame.End.the-variants.{Thermostat, Host}
-use Rattle.omnistat.specs.Frame.{framed, bytesOf, addressable, firstOf}
-use Rattle.omnistat.specs.Message.{Request, Reply, poll, setFrom, pollGroup, acknowledge, negative, dataFrom, group}
-use Rattle.omnistat.specs.Omnistat.{Message, asMessage, kindOf, payloadOf, Addressed, addressed, read, write, writeBytes}
-use Rattle.omnistat.specs.Answer.{onMessage, countedRequest, countedReply}
-use Rattle.omnistat.proofs.Laws.Outcome.{same-accepted, passed-not, then-accepted, on-accepted}
+use Rattle.omnistat.specs.declared.message.Run.{Run}
+use Rattle.omnistat.specs.declared.request.Request.{Request as RequestAnswer}
+use Rattle.omnistat.specs.declared.request.Request.the-variants.{Refused as RequestRefused, Poll, Set, PollGroup}
+use Rattle.omnistat.specs.declared.reply.Reply.{Reply as ReplyAnswer}
+use Rattle.omnistat.specs.declared.reply.Reply.the-variants.{Refused as ReplyRefused, Acknowledge, Negative, Data, Group as GroupAnswer}
+use Rattle.omnistat.specs.Frame.{framed, bytesOf, directed, firstOf}
+use Rattle.omnistat.specs.Message.{Message, setFrom, dataFrom, group, asRun, asMessage, bodyOf}
+use Rattle.omnistat.specs.Omnistat.{Addressed, addressed, read, writeBytes}
+use Rattle.omnistat.specs.Answer.{requestIn, replyIn}
+use Rattle.omnistat.specs.Parts.{runIn, Says, passed}
+use Rattle.omnistat.proofs.Laws.Outcome.{same-accepted, passed-not, then-accepted, heard-twice}
+use Rattle.omnistat.proofs.Laws.Message.{run-natural}
 use Rattle.omnistat.proofs.Laws.Omnistat.{write-after-read}
+use Rattle.omnistat.proofs.Laws.Typed.{again}
 
--- the bytes that an accepted message was read from
-pub bytes-read : (end : End) (address : ℕ) (m : Message end) (s : List ℕ) → read end s ≡ accepted (addressed address m)
-    → s ≡ bytesOf (framed (firstOf end address) (kindOf end m) (payloadOf end m))
+-- only what follows the second byte is looked at
+request-after : (s : List ℕ) (r : RequestAnswer) → requestIn s r ≡ requestIn (0 ∷ 0 ∷ drop 2 s) r
+request-after s (RequestRefused e) = refl
+request-after s (Poll first start count) = refl
+request-after s (Set first start count) = ap (λ (x : List ℕ). accepted (addressed first (setFrom start (take count x)))) (sym (drop-drop 1 2 s))
+request-after s (PollGroup first g) = refl
+
+reply-after : (s : List ℕ) (r : ReplyAnswer) → replyIn s r ≡ replyIn (0 ∷ 0 ∷ drop 2 s) r
+reply-after s (ReplyRefused e) = refl
+reply-after s (Acknowledge number) = refl
+reply-after s (Negative number) = refl
+reply-after s (Data number start count) = ap (λ (x : List ℕ). accepted (addressed number (dataFrom start (take count x)))) (sym (drop-drop 1 2 s))
+reply-after s (GroupAnswer number g count) = refl
+
+-- so what is said of data bytes holds in the message that they are a part of
+module _ {A M : Type 0} (reading : List ℕ → A → Outcome M) (after : (s : List ℕ) (r : A) → reading s r ≡ reading (0 ∷ 0 ∷ drop 2 s) r) where
+  in-message : (s payload : List ℕ) (n : ℕ) → payload ≡ take n (drop 2 s) → (r : A) (o : Outcome M) → Says reading payload r o → reading s r ≡ o
+  in-message s payload n e r o says =
+      after s r
+      ∙ ap (λ (x : List ℕ). reading (0 ∷ 0 ∷ x) r) (sym (ap (λ (p : List ℕ). p ++ drop n (drop 2 s)) e ∙ take-append-drop n (drop 2 s)))
+      ∙ says (drop n (drop 2 s))
+
+module _ (s payload : List ℕ) (n : ℕ) (e : payload ≡ take n (drop 2 s)) where
+  pub request-in : (r : RequestAnswer) (o : Outcome (Addressed (Message Thermostat))) → Says requestIn payload r o → requestIn s r ≡ o
+  request-in = in-message requestIn request-after s payload n e
+
+  pub reply-in : (r : ReplyAnswer) (o : Outcome (Addressed (Message Host))) → Says replyIn payload r o → replyIn s r ≡ o
+  reply-in = in-message replyIn reply-after s payload n e
+
+-- only whether it is accepted, by the answer's case
+pub checked : {A M : Type 0} (reading : List ℕ → A → Outcome (Addressed M)) (payload : List ℕ) (r q : A) (o : Outcome M)
+    → Says reading payload r (onAccepted (addressed 0) o) → r ≡ q
+    → onAccepted passed (reading (0 ∷ 0 ∷ (payload ++ [])) q) ≡ onAccepted passed o
+checked {A = A} reading payload r q o says k =
+    ap (λ (x : A). onAccepted passed (reading (0 ∷ 0 ∷ (payload ++ [])) x)) (sym k)
+    ∙ ap (onAccepted passed) (says [])
+    ∙ heard-twice (addressed 0) passed o
+
+-- a run that was read is made into a message
+pub run-made : {M : Type 0} (address : ℕ) (make : ℕ → List ℕ → M) (payload : List ℕ) (r : Run)
+    → Says runIn payload r (asRun (λ start values. (start, values)) payload)
+    → (rest : List ℕ) → onAccepted (λ p. addressed address (make (p .0) (p .1))) (runIn (0 ∷ 0 ∷ (payload ++ rest)) r) ≡ onAccepted (addressed address) (asRun make payload)
+run-made address make payload r says rest =
+    ap (onAccepted (λ p. addressed address (make (p .0) (p .1)))) (says rest)
+    ∙ run-natural (λ p. addressed address (make (p .0) (p .1))) (λ start values. (start, values)) payload
+    ∙ sym (run-natural (addressed address) make payload)
+
+-- an accepted message was read from its own type and data bytes, and from these bytes alone
+pub message-read : (end : End) (address : ℕ) (m : Message end) (s : List ℕ) → read end s ≡ accepted (addressed address m)
+    → (asMessage end (bodyOf end m .kind) (bodyOf end m .payload) ≡ accepted m)
+    × (s ≡ bytesOf (framed (firstOf end address) (bodyOf end m .kind) (bodyOf end m .payload)))
 unfolding writeBytes
-bytes-read end address m s e =
-    let bytes = bytesOf (framed (firstOf end address) (kindOf end m) (payloadOf end m)) in
+message-read end address m s e =
+    let bytes = bytesOf (framed (firstOf end address) (bodyOf end m .kind) (bodyOf end m .payload)) in
     let p =
-    then-accepted (asMessage end (kindOf end m) (payloadOf end m))
-    (λ n. refuseIf (not (addressable end address)) 8 (accepted bytes)) s (write-after-read end address m s e) in
-    sym (same-accepted (passed-not 8 (accepted bytes) s (addressable end address) (p .2) .1))
+    then-accepted (asMessage end (bodyOf end m .kind) (bodyOf end m .payload))
+    (λ n. refuseIf (not (directed end (firstOf end address))) 8 (accepted bytes)) s (write-after-read end address m s e) in (
+      p .1 ∙ ap accepted (sym (again end m (p .0) (p .1))),
+      sym (same-accepted (passed-not 8 (accepted bytes) s (directed end (firstOf end address)) (p .2) .1)),
+    )
 
--- the values of a message are a part of the bytes that it was read from
-module _ (address : ℕ) (s : List ℕ) where
-  set-in-place : (start : ℕ) (values : List ℕ) → read Thermostat s ≡ accepted (addressed address (setFrom start values))
-      → values ≡ take (length values) (drop 3 s)
+-- values that stand before one more byte are as many as were taken
+taken-count : (values : List ℕ) (last count : ℕ) → values ≡ take count (values ++ (last ∷ [])) → length values ≡ count
+taken-count [] last zero e = refl
+taken-count [] last (suc count) e = absurd (let z : _≡_ {A = ℕ} 0 1 = cc in omega arith)
+taken-count (v ∷ values) last zero e = absurd (let z : _≡_ {A = ℕ} 0 1 = cc in omega arith)
+taken-count (v ∷ values) last (suc count) e =
+    let f : values ≡ take count (values ++ (last ∷ [])) = cc in
+    ap suc (taken-count values last count f)
+
+module _ (address : ℕ) (s : List ℕ) (count : ℕ) where
+  pub set-count : (start : ℕ) → read Thermostat s ≡ accepted (addressed address (setFrom start (take count (drop 3 s)))) → length (take count (drop 3 s)) ≡ count
   unfolding bytesOf
-  set-in-place start values e =
-      sym
-      (ap (λ (t : List ℕ). take (length values) (drop 3 t)) (bytes-read Thermostat address (setFrom start values) s e)
-      ∙ take-append-seam values _)
+  set-count start e =
+      let v = take count (drop 3 s) in
+      taken-count v _ count (ap (λ (t : List ℕ). take count (drop 3 t)) (message-read Thermostat address (setFrom start v) s e .1))
 
-  data-in-place : (start : ℕ) (values : List ℕ) → read Host s ≡ accepted (addressed address (dataFrom start values))
-      → values ≡ take (length values) (drop 3 s)
+  pub data-count : (start : ℕ) → read Host s ≡ accepted (addressed address (dataFrom start (take count (drop 3 s)))) → length (take count (drop 3 s)) ≡ count
   unfolding bytesOf
-  data-in-place start values e =
-      sym
-      (ap (λ (t : List ℕ). take (length values) (drop 3 t)) (bytes-read Host address (dataFrom start values) s e)
-      ∙ take-append-seam values _)
+  data-count start e =
+      let v = take count (drop 3 s) in
+      taken-count v _ count (ap (λ (t : List ℕ). take count (drop 3 t)) (message-read Host address (dataFrom start v) s e .1))
 
-  group-in-place : (g : Group) (values : List ℕ) → read Host s ≡ accepted (addressed address (group g values))
-      → values ≡ take (length values) (drop 2 s)
+  pub group-count : (g : Group) → read Host s ≡ accepted (addressed address (group g (take count (drop 2 s)))) → length (take count (drop 2 s)) ≡ count
   unfolding bytesOf
-  group-in-place g values e =
-      sym
-      (ap (λ (t : List ℕ). take (length values) (drop 2 t)) (bytes-read Host address (group g values) s e)
-      ∙ take-append-seam values _)
-
--- a request that was heard is this message, its values in place
-abbrev pub requestIn : List ℕ → Request ℕ → Request (List ℕ)
-requestIn s (poll start count) = poll start count
-requestIn s (setFrom start count) = setFrom start (take count (drop 3 s))
-requestIn s (pollGroup g) = pollGroup g
-
-pub request-read : (s : List ℕ) (first : ℕ) (q : Request ℕ)
-    → accepted (addressed first q) ≡ onAccepted (onMessage countedRequest) (read Thermostat s)
-    → read Thermostat s ≡ accepted (addressed first (requestIn s q))
-request-read s first q e =
-    let p = on-accepted (onMessage countedRequest) (read Thermostat s) (addressed first q) (sym e) in
-    go (p .0 .address) (p .0 .message) (p .1) (p .2)
-  where
-    go : (a : ℕ) (m : Request (List ℕ)) → read Thermostat s ≡ accepted (addressed a m)
-        → addressed a (countedRequest m) ≡ addressed first q → read Thermostat s ≡ accepted (addressed first (requestIn s q))
-    go a (poll start count) r h = r ∙ ap (λ (x : Addressed (Request ℕ)). accepted (addressed (x .address) (requestIn s (x .message)))) h
-    go a (setFrom start values) r h =
-        r
-        ∙ ap (λ (v : List ℕ). accepted (addressed a (setFrom start v))) (set-in-place a s start values r)
-        ∙ ap (λ (x : Addressed (Request ℕ)). accepted (addressed (x .address) (requestIn s (x .message)))) h
-    go a (pollGroup g) r h = r ∙ ap (λ (x : Addressed (Request ℕ)). accepted (addressed (x .address) (requestIn s (x .message)))) h
-
--- a reply that was heard is this message, its values in place
-abbrev pub replyIn : List ℕ → Reply ℕ → Reply (List ℕ)
-replyIn s acknowledge = acknowledge
-replyIn s negative = negative
-replyIn s (dataFrom start count) = dataFrom start (take count (drop 3 s))
-replyIn s (group g count) = group g (take count (drop 2 s))
-
-pub reply-read : (s : List ℕ) (number : ℕ) (q : Reply ℕ)
-    → accepted (addressed number q) ≡ onAccepted (onMessage countedReply) (read Host s)
-    → read Host s ≡ accepted (addressed number (replyIn s q))
-reply-read s number q e =
-    let p = on-accepted (onMessage countedReply) (read Host s) (addressed number q) (sym e) in
-    go (p .0 .address) (p .0 .message) (p .1) (p .2)
-  where
-    go : (a : ℕ) (m : Reply (List ℕ)) → read Host s ≡ accepted (addressed a m)
-        → addressed a (countedReply m) ≡ addressed number q → read Host s ≡ accepted (addressed number (replyIn s q))
-    go a acknowledge r h = r ∙ ap (λ (x : Addressed (Reply ℕ)). accepted (addressed (x .address) (replyIn s (x .message)))) h
-    go a negative r h = r ∙ ap (λ (x : Addressed (Reply ℕ)). accepted (addressed (x .address) (replyIn s (x .message)))) h
-    go a (dataFrom start values) r h =
-        r
-        ∙ ap (λ (v : List ℕ). accepted (addressed a (dataFrom start v))) (data-in-place a s start values r)
-        ∙ ap (λ (x : Addressed (Reply ℕ)). accepted (addressed (x .address) (replyIn s (x .message)))) h
-    go a (group g values) r h =
-        r
-        ∙ ap (λ (v : List ℕ). accepted (addressed a (group g v))) (group-in-place a s g values r)
-        ∙ ap (λ (x : Addressed (Reply ℕ)). accepted (addressed (x .address) (replyIn s (x .message)))) h
+  group-count g e =
+      let v = take count (drop 2 s) in
+      taken-count v _ count (ap (λ (t : List ℕ). take count (drop 2 t)) (message-read Host address (group g v) s e .1))

@@ -1,24 +1,23 @@
 -- Reading and writing at both ends undo each other. Assumes nothing.
 use mathlib.Core.Path.{_≡_, refl, sym, ap, _∙_, subst}
-use mathlib.Core.Bool.{Bool, true, false, not, _&&_, _||_}
-use mathlib.Core.List.{List, [], _∷_}
-use Prim.Native.Nat.{ℕ, _+_, _-_, _≤_, _<_}
+use mathlib.Core.Bool.{Bool, true, false, not}
+use mathlib.Core.List.{List, _∷_}
+use Prim.Native.Nat.{ℕ, _+_, _≤_, _<_}
 use native.Mathlib.Omega.{arith}
 use lib.Dec.{leb}
-use lib.ListN.{length, take, drop}
-use borrow.Author.Tests.{leb-true, le-leb}
-use Rattle.answer.specs.Answer.{Outcome, refused, accepted, refuseIf, onAccepted, andThen}
+use lib.ListN.{length}
+use borrow.Author.Tests.{leb-true, leb-false}
+use Rattle.answer.specs.Answer.{refused, accepted, refuseIf, onAccepted}
 use Rattle.omnistat.specs.declared.frame.End.{End}
 use Rattle.omnistat.specs.declared.frame.End.the-variants.{Thermostat, Host}
-use Rattle.omnistat.specs.Register.{within}
-use Rattle.omnistat.specs.Frame.{Frame, framed, frame, directed, addressOf, addressable, firstOf, bytesOf}
-use Rattle.omnistat.specs.Message.{Request, Reply, setFrom, dataFrom, asRequest, asReply}
-use Rattle.omnistat.specs.Omnistat.{Message, asMessage, kindOf, payloadOf, Addressed, addressed, read, write, writeBytes}
-use Rattle.omnistat.specs.Answer.{onMessage, countedRequest, countedReply, heardRequest, heardReply, passed}
-use Rattle.omnistat.proofs.Laws.Outcome.{never, same-accepted, passed-not, then-accepted, on-accepted, heard-twice, still-refused}
+use Rattle.omnistat.specs.Frame.{Frame, framed, frame, directed, addressOf, firstOf, bytesOf}
+use Rattle.omnistat.specs.Message.{Message, setFrom, dataFrom, asMessage, bodyOf}
+use Rattle.omnistat.specs.Omnistat.{Addressed, addressed, read, write, writeBytes}
+use Rattle.omnistat.specs.Parts.{passed}
+use Rattle.omnistat.proofs.Laws.Outcome.{same-accepted, passed-not, then-accepted, on-accepted, still-refused}
 use Rattle.omnistat.proofs.Laws.Frame.{taken-apart, read-back}
-use Rattle.omnistat.proofs.Laws.Message.{inside, within-both, run-long}
-use Rattle.omnistat.proofs.Laws.Typed.{named, kind-fits, payload-fits, again}
+use Rattle.omnistat.proofs.Laws.Message.{too-low, too-high, inside, within-both, run-long}
+use Rattle.omnistat.proofs.Laws.Typed.{told, kind-fits, again}
 
 -- reading, by the frame
 module _ (end : End) (s : List ℕ) where
@@ -31,40 +30,32 @@ module _ (end : End) (s : List ℕ) where
   unfolding read
   read-whole f e = rw (← e)
 
--- what the readers hand back
-pub request-heard : (s : List ℕ) (f : Frame) → accepted f ≡ frame Thermostat s
-    → onAccepted (onMessage countedRequest) (read Thermostat s) ≡ onAccepted (heardRequest (f .first)) (asRequest (f .kind) (f .payload))
-request-heard s f e =
-    ap (onAccepted (onMessage countedRequest)) (read-whole Thermostat s f e)
-    ∙ heard-twice (addressed (f .first)) (onMessage countedRequest) (asRequest (f .kind) (f .payload))
-
-pub reply-heard : (s : List ℕ) (f : Frame) → accepted f ≡ frame Host s
-    → onAccepted (onMessage countedReply) (read Host s) ≡ onAccepted (heardReply (f .first - 0x80)) (asReply (f .kind) (f .payload))
-reply-heard s f e =
-    ap (onAccepted (onMessage countedReply)) (read-whole Host s f e)
-    ∙ heard-twice (addressed (f .first - 0x80)) (onMessage countedReply) (asReply (f .kind) (f .payload))
-
 -- the first byte and the address name one another
 pub from-host : (s : List ℕ) (f : Frame) → accepted f ≡ frame Host s → 0x80 ≤ f .first
 from-host s f e =
     let p = within-both 129 255 (f .first) (taken-apart Host s f (sym e) .0) in
     omega (arith, p .0)
 
-first-directed : (end : End) (a : ℕ) → addressable end a ≡ true → directed end (firstOf end a) ≡ true
-first-directed Thermostat a e = e
-first-directed Host a e =
-    let p = within-both 1 127 a e in
-    inside 129 255 (a + 128) (omega (arith, p .0)) (omega (arith, p .1))
+-- a reply has a first byte of the host's where its number is 01 to 7F
+module _ (number : ℕ) where
+  pub number-too-low : number < 1 → directed Host (firstOf Host number) ≡ false
+  number-too-low h = let l : number + 128 < 129 = omega arith in too-low 129 255 (number + 128) l
+
+  pub as-number : 1 ≤ number → leb number 127 ≡ directed Host (firstOf Host number)
+  as-number h = go (leb number 127) refl
+    where
+      go : (t : Bool) → leb number 127 ≡ t → t ≡ directed Host (firstOf Host number)
+      go true e =
+          let l : 129 ≤ number + 128 = omega arith in
+          let m : number + 128 ≤ 255 = omega (arith, leb-true number 127 e) in
+          sym (inside 129 255 (number + 128) l m)
+      go false e =
+          let l : 255 < number + 128 = omega (arith, leb-false number 127 e) in
+          sym (too-high 129 255 (number + 128) l)
 
 address-of-first : (end : End) (a : ℕ) → addressOf end (firstOf end a) ≡ a
 address-of-first Thermostat a = refl
 address-of-first Host a = omega arith
-
-address-addressable : (end : End) (first : ℕ) → directed end first ≡ true → addressable end (addressOf end first) ≡ true
-address-addressable Thermostat first e = e
-address-addressable Host first e =
-    let p = within-both 129 255 first e in
-    inside 1 127 (first - 128) (omega (arith, p .0)) (omega (arith, p .1))
 
 first-of-address : (end : End) (first : ℕ) → directed end first ≡ true → firstOf end (addressOf end first) ≡ first
 first-of-address Thermostat first e = refl
@@ -78,11 +69,11 @@ pub read-after-write-bytes : (end : End) (address kind : ℕ) (payload bytes : L
 unfolding writeBytes
 read-after-write-bytes end address kind payload bytes e =
     let f : Frame = record { first = firstOf end address; kind = kind; payload = payload } in
-    let p = then-accepted (asMessage end kind payload) (λ m. refuseIf (not (addressable end address)) 8 (accepted (bytesOf f))) bytes e in
-    let q = passed-not 8 (accepted (bytesOf f)) bytes (addressable end address) (p .2) in
-    let k : kind < 16 = subst (λ (n : ℕ). n < 16) (named end kind payload (p .0) (p .1) .0) (kind-fits end (p .0)) in
+    let p = then-accepted (asMessage end kind payload) (λ m. refuseIf (not (directed end (firstOf end address))) 8 (accepted (bytesOf f))) bytes e in
+    let q = passed-not 8 (accepted (bytesOf f)) bytes (directed end (firstOf end address)) (p .2) in
+    let k : kind < 16 = subst (λ (n : ℕ). n < 16) (told end kind payload (p .0) (p .1) .0) (kind-fits end (p .0)) in
     ap (read end) (sym (same-accepted (q .1)))
-    ∙ read-whole end (bytesOf f) f (sym (read-back end f (first-directed end address (q .0)) k))
+    ∙ read-whole end (bytesOf f) f (sym (read-back end f (q .0) k))
     ∙ ap (λ (a : ℕ). onAccepted (addressed a) (asMessage end kind payload)) (address-of-first end address)
 
 -- what is written is read back as the same message
@@ -90,9 +81,9 @@ pub read-after-write : (end : End) (address : ℕ) (m : Message end) (bytes : Li
     → read end bytes ≡ accepted (addressed address m)
 unfolding writeBytes
 read-after-write end address m bytes e =
-    let f : Frame = record { first = firstOf end address; kind = kindOf end m; payload = payloadOf end m } in
-    let p = then-accepted (asMessage end (kindOf end m) (payloadOf end m)) (λ n. refuseIf (not (addressable end address)) 8 (accepted (bytesOf f))) bytes e in
-    read-after-write-bytes end address (kindOf end m) (payloadOf end m) bytes e
+    let f : Frame = record { first = firstOf end address; kind = bodyOf end m .kind; payload = bodyOf end m .payload } in
+    let p = then-accepted (asMessage end (bodyOf end m .kind) (bodyOf end m .payload)) (λ n. refuseIf (not (directed end (firstOf end address))) 8 (accepted (bytesOf f))) bytes e in
+    read-after-write-bytes end address (bodyOf end m .kind) (bodyOf end m .payload) bytes e
     ∙ ap (onAccepted (addressed address)) (p .1 ∙ ap accepted (sym (again end m (p .0) (p .1))))
 
 -- the bytes of a frame are written for its type and data bytes, where these name a message
@@ -100,7 +91,7 @@ written-again : (end : End) (f : Frame) (m : Message end) → asMessage end (f .
     → writeBytes end (addressOf end (f .first)) (f .kind) (f .payload) ≡ accepted (bytesOf f)
 unfolding writeBytes
 written-again end f m e d =
-    simp (e, address-addressable end (f .first) d)
+    simp (e, ap (directed end) (first-of-address end (f .first) d) ∙ d)
     (ap (λ (first : ℕ). accepted (bytesOf (record { first = first; kind = f .kind; payload = f .payload }))) (first-of-address end (f .first) d))
 
 -- what is read is written as the same bytes
@@ -114,12 +105,12 @@ write-after-read end address m bytes e =
     let f : Frame = p .0 in
     let q = on-accepted (addressed (addressOf end (f .first))) (asMessage end (f .kind) (f .payload)) (addressed address m) (p .2) in
     let t = taken-apart end bytes f (p .1) in
-    let n = named end (f .kind) (f .payload) (q .0) (q .1) in
+    let n = told end (f .kind) (f .payload) (q .0) (q .1) in
     let a : addressOf end (f .first) ≡ address = ap (λ (x : Addressed (Message end)). x .address) (q .2) in
     let g : q .0 ≡ m = ap (λ (x : Addressed (Message end)). x .message) (q .2) in
-    ap (λ (i : ℕ). writeBytes end i (kindOf end m) (payloadOf end m)) (sym a)
-    ∙ ap (λ (k : ℕ). writeBytes end (addressOf end (f .first)) k (payloadOf end m)) (ap (kindOf end) (sym g) ∙ n .0)
-    ∙ ap (λ (d : List ℕ). writeBytes end (addressOf end (f .first)) (f .kind) d) (ap (payloadOf end) (sym g) ∙ n .1)
+    ap (λ (i : ℕ). writeBytes end i (bodyOf end m .kind) (bodyOf end m .payload)) (sym a)
+    ∙ ap (λ (k : ℕ). writeBytes end (addressOf end (f .first)) k (bodyOf end m .payload)) (ap (λ (x : Message end). bodyOf end x .kind) (sym g) ∙ n .0)
+    ∙ ap (λ (d : List ℕ). writeBytes end (addressOf end (f .first)) (f .kind) d) (ap (λ (x : Message end). bodyOf end x .payload) (sym g) ∙ n .1 .0)
     ∙ written-again end f (q .0) (q .1) (t .0)
     ∙ ap accepted (t .2)
 
@@ -133,17 +124,17 @@ module _ (end : End) (address kind : ℕ) (payload : List ℕ) where
     pub frame-fits : (kind < 16) × (length payload ≤ 15)
     frame-fits =
         let p = on-accepted passed (asMessage end kind payload) tt (sym e) in (
-          subst (λ (k : ℕ). k < 16) (named end kind payload (p .0) (p .1) .0) (kind-fits end (p .0)),
-          payload-fits end kind payload (p .0) (p .1),
+          subst (λ (k : ℕ). k < 16) (told end kind payload (p .0) (p .1) .0) (kind-fits end (p .0)),
+          told end kind payload (p .0) (p .1) .1 .1,
         )
 
-    pub write-misaddressed : addressable end address ≡ false → writeBytes end address kind payload ≡ refused 8
+    pub write-misaddressed : directed end (firstOf end address) ≡ false → writeBytes end address kind payload ≡ refused 8
     unfolding writeBytes
     write-misaddressed a =
         let p = on-accepted passed (asMessage end kind payload) tt (sym e) in
         simp (p .1, a)
 
-    pub write-framed : addressable end address ≡ true
+    pub write-framed : directed end (firstOf end address) ≡ true
         → writeBytes end address kind payload ≡ accepted (bytesOf (framed (firstOf end address) kind payload))
     unfolding writeBytes
     write-framed a =
@@ -153,9 +144,9 @@ module _ (end : End) (address kind : ℕ) (payload : List ℕ) where
 -- more values than a message can carry
 module _ (address start : ℕ) (values : List ℕ) (h : 14 < length values) where
   pub set-too-long : write Thermostat address (setFrom start values) ≡ refused 7
-  unfolding writeBytes asRequest
+  unfolding writeBytes asMessage
   set-too-long = let k : 15 < length (start ∷ values) = omega arith in simp (run-long setFrom (start ∷ values) k)
 
   pub data-too-long : write Host address (dataFrom start values) ≡ refused 7
-  unfolding writeBytes asReply
+  unfolding writeBytes asMessage
   data-too-long = let k : 15 < length (start ∷ values) = omega arith in simp (run-long dataFrom (start ∷ values) k)

@@ -1,11 +1,10 @@
 -- What an accepted answer tells about the checks that it passed: laws on any outcome. Assumes nothing.
-use mathlib.Core.Path.{_≡_, refl, sym, ap, _∙_}
+use mathlib.Core.Path.{_≡_, refl, sym, ap}
 use mathlib.Core.Bool.{Bool, true, false, not, cond}
 use mathlib.Core.Logic.{_⊎_, inl, inr}
 use Prim.Native.Nat.{ℕ}
 use native.Mathlib.Omega.{arith}
 use Rattle.answer.specs.Answer.{Outcome, refused, accepted, refuseIf, onAccepted, andThen}
-use Rattle.omnistat.specs.Answer.{passed as passed-check}
 
 pub never : {A : Type 0} (n : ℕ) (a : A) → refused n ≡ accepted a → ⊥
 never n a e = let z : _≡_ {A = ℕ} 0 1 = cc in omega arith
@@ -44,7 +43,3 @@ heard-twice f g (accepted a) = refl
 pub still-refused : {A B : Type 0} (f : A → B) (o : Outcome A) (n : ℕ) → onAccepted f o ≡ refused n → o ≡ refused n
 still-refused f (refused m) n e = let h : m ≡ n = cc in ap refused h
 still-refused f (accepted a) n e = absurd (never n (f a) (sym e))
-
--- only whether it is accepted: f of what is accepted says the same
-pub checked : {A B : Type 0} (f : A → B) (o : Outcome A) (q : Outcome B) → q ≡ onAccepted f o → onAccepted passed-check q ≡ onAccepted passed-check o
-checked f o q e = ap (onAccepted passed-check) e ∙ heard-twice f passed-check o

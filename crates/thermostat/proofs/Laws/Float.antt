@@ -1,9 +1,9 @@
 -- Two f32 that compare equal are the same value, or both are zero. Assumes nothing.
 use mathlib.Core.Path.{_≡_, refl, sym, ap, _∙_}
-use mathlib.Core.Bool.{Bool, true, false, not, _&&_, _||_, Bool·beq}
+use mathlib.Core.Bool.{Bool, true, false, _&&_, _||_, Bool·beq}
 use mathlib.Core.Logic.{_⊎_, inl, inr}
 use Prim.Native.Nat.{ℕ, zero, suc, _+_, _*_, _%_, _^_, _<_}
-use native.Mathlib.Nat.{mul-one, mul-assoc, mul-pos, zero-mul, pow-succ', mul-left-comm, zero-lt-suc, lt-irrefl, eq-of-mul-eq-mul-right, pow-suc}
+use native.Mathlib.Nat.{mul-one, mul-assoc, mul-pos, zero-mul, pow-succ', mul-left-comm, zero-lt-suc, eq-of-mul-eq-mul-right, pow-suc}
 use native.Mathlib.Omega.{arith}
 use lib.Dec.{T, eqb, leb, ltb}
 use lib.IntN.{ℤ, pos, negsuc}

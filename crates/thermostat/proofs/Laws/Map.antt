@@ -2,7 +2,6 @@
 use mathlib.Core.Path.{_≡_, refl, sym, ap, _∙_}
 use mathlib.Core.Bool.{Bool, true, false, _&&_}
 use mathlib.Core.List.{List, [], _∷_}
-use mathlib.Core.Logic.{_⊎_, inl, inr}
 use Prim.Native.Nat.{ℕ, zero, suc, _+_, _-_, _<_, _≤_}
 use native.Mathlib.Nat.{add-zero, add-suc, suc-add, le-of-suc-le-suc, not-suc-le-zero}
 use native.Mathlib.Numerals.{add-one}
@@ -29,11 +28,6 @@ module _ (m : List ℕ) (r v : ℕ) where
   put-length = length-set m r v
 
 -- ---- values in registers from a start
-
-pub stored-length : (m : List ℕ) (r : ℕ) (vs : List ℕ) → length (stored m r vs) ≡ length m
-unfolding stored
-stored-length m r [] = refl
-stored-length m r (v ∷ vs) = stored-length (put m r v) (suc r) vs ∙ put-length m r v
 
 -- a register before the start, or past the last value, is as it was
 pub stored-before : (m : List ℕ) (r : ℕ) (vs : List ℕ) (q : ℕ) → q < r → content (stored m r vs) q ≡ content m q

@@ -1,15 +1,16 @@
 -- The tables state what the paper states of every register, by one computed test; and what the tables' bytes decide. Assumes nothing.
 use mathlib.Core.Path.{_≡_, refl, sym, ap, _∙_}
-use mathlib.Core.Bool.{Bool, true, false, _&&_, _||_, or-false}
+use mathlib.Core.Bool.{Bool, true, false, not, _&&_, _||_, or-false}
 use native.Mathlib.Omega.{arith}
 use mathlib.Core.List.{List, [], _∷_}
 use Prim.Native.Nat.{ℕ, _<_, _≤_}
-use lib.Dec.{T, eqb, leb, ltb}
+use lib.Dec.{T, eqb, leb}
 use lib.ListN.{length, getD}
-use borrow.Author.Tests.{eqb-true, eqb-false, leb-true, leb-false, le-leb, lt-leb, eq-eqb, ne-eqb}
+use borrow.Author.Tests.{eqb-true, eqb-false, leb-true, leb-false, le-leb, lt-leb, ne-eqb}
 use Rattle.omnistat.specs.Register.{within}
-use Rattle.thermostat.specs.Registers.{Range, inAny, listed, readOnly, allowed, takes, writable, settable, flag, lowest, highest, writableFlag, lowOf, highOf, States}
-use Rattle.thermostat.proofs.Laws.Table.{every, at, each, below, holds, both-left, both-right}
+use Rattle.thermostat.specs.Registers.{Range, inAny, listed, readOnly, allowed, settable}
+use Rattle.thermostat.specs.Parts.{takes, flag, lowest, highest, writableFlag, lowOf, highOf, States}
+use Rattle.thermostat.proofs.Laws.Table.{every, at, below, holds, both-left, both-right}
 
 -- the computed test: each entry is what is stated of its place
 abbrev pub stated : (ℕ → ℕ) → List ℕ → Bool
@@ -92,10 +93,10 @@ flag-other false e = refl
 
 module _ (bytes : List ℕ) (s : States writableFlag bytes) (r v : ℕ) (h : r < 256) where
   pub not-settable : (getD bytes r 0 ≡ 1 → ⊥) → settable r v ≡ false
-  not-settable n = ap (λ (b : Bool). b && takes r v) (flag-other (writable r) (λ e. n (s .entry r h ∙ e)))
+  not-settable n = ap (λ (b : Bool). b && takes r v) (flag-other (listed r && not (readOnly r)) (λ e. n (s .entry r h ∙ e)))
 
   pub settable-as-taken : getD bytes r 0 ≡ 1 → settable r v ≡ takes r v
-  settable-as-taken e = ap (λ (b : Bool). b && takes r v) (flag-one (writable r) (sym (s .entry r h) ∙ e))
+  settable-as-taken e = ap (λ (b : Bool). b && takes r v) (flag-one (listed r && not (readOnly r)) (sym (s .entry r h) ∙ e))
 
 -- the last number of each list
 pub last-level : (v : ℕ) → (v ≡ 0 → ⊥) → (v ≡ 1 → ⊥) → (v ≡ 2 → ⊥) → takes 70 v ≡ eqb v 4

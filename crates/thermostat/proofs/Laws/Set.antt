@@ -1,6 +1,6 @@
 -- An accepted set: the addressed registers hold the values and no others changed; a set with one bad register stores none. Assumes nothing.
-use mathlib.Core.Path.{_≡_, refl, sym, ap, _∙_}
-use mathlib.Core.Bool.{Bool, true, false, not}
+use mathlib.Core.Path.{_≡_, sym, ap, _∙_}
+use mathlib.Core.Bool.{true, false, not}
 use mathlib.Core.List.{List}
 use mathlib.Core.Logic.{_⊎_, ⊎-elim}
 use Prim.Native.Nat.{ℕ, _+_, _<_, _≤_}
@@ -8,7 +8,7 @@ use native.Mathlib.Omega.{arith}
 use lib.ListN.{length, getD}
 use lib.Dec.{eqb, ltb}
 use borrow.Author.Tests.{eqb-true}
-use Rattle.answer.specs.Answer.{Outcome, refused, accepted, refuseIf, onAccepted}
+use Rattle.answer.specs.Answer.{Outcome, accepted, refuseIf, onAccepted}
 use Rattle.omnistat.specs.declared.frame.End.the-variants.{Thermostat}
 use Rattle.omnistat.specs.Register.{within}
 use Rattle.omnistat.specs.Message.{Request, setFrom}
@@ -38,7 +38,7 @@ module _ (own : ℕ) (m s : List ℕ) (room : ℕ) (d : Done) (e : step own m s 
     map-left =
         let q = addressed first (setFrom start values) in
         let k : accepted (done own m q) ≡ accepted d
-        = sym (ap (λ (o : Outcome (Addressed (Request (List ℕ)))). onAccepted (done own m) o) r) ∙ whole-map .1 in
+        = sym (ap (λ (o : Outcome (Addressed Request)). onAccepted (done own m) o) r) ∙ whole-map .1 in
         ap (λ (x : Done). x .map) (sym (same-accepted k)) ∙ heard-map own first m (setFrom start values) f
 
     -- every register listed, writable and in range: all values are stored

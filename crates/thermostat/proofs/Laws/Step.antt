@@ -1,27 +1,29 @@
 -- A step's reply is always accepted by the writer and fits; what a message that was read says of its registers. Assumes nothing.
-use mathlib.Core.Path.{_≡_, refl, sym, ap, _∙_}
+use mathlib.Core.Path.{_≡_, refl, sym, ap, _∙_, subst}
 use mathlib.Core.Bool.{Bool, true, false, not, cond, _&&_, and-false}
-use mathlib.Core.List.{List, [], _∷_, _++_}
-use Prim.Native.Nat.{ℕ, zero, suc, _+_, _-_, _<_, _≤_}
+use mathlib.Core.List.{List, []}
+use Prim.Native.Nat.{ℕ, _+_, _-_, _<_, _≤_}
 use native.Mathlib.Omega.{arith}
-use lib.ListN.{length, take, drop, length-append, length-drop}
+use lib.ListN.{length, take, drop, length-drop}
 use lib.Seq.{length-take-le}
 use native.Mathlib.Nat.{add-sub-cancel-left}
-use lib.Dec.{eqb, leb, ltb}
+use lib.Dec.{eqb, leb}
 use borrow.Author.Tests.{le-leb, lt-leb, leb-true, eq-eqb, ne-eqb, lt-ltb, le-ltb}
-use Rattle.answer.specs.Answer.{Outcome, refused, accepted, refuseIf, onAccepted, andThen, inRoom, outAfter}
+use Rattle.answer.specs.Answer.{Outcome, refused, accepted, refuseIf, onAccepted, inRoom, outAfter}
 use Rattle.answer.proofs.Laws.Output.{with-room}
 use Rattle.omnistat.specs.declared.group.Group.{Group}
 use Rattle.omnistat.specs.declared.group.Group.the-variants.{First, Second, Third}
 use Rattle.omnistat.specs.declared.frame.End.the-variants.{Thermostat, Host}
 use Rattle.omnistat.specs.Register.{within, runAllowed}
-use Rattle.omnistat.specs.Frame.{framed, bytesOf, firstOf, addressable}
-use Rattle.omnistat.specs.Message.{Request, Reply, poll, setFrom, pollGroup, acknowledge, negative, dataFrom, group, asReply, asRequest, replyKind, replyPayload}
-use Rattle.omnistat.specs.Omnistat.{Addressed, addressed, asMessage, read, write, writeBytes}
-use Rattle.omnistat.proofs.Laws.Outcome.{then-accepted, passed-not}
-use Rattle.omnistat.proofs.Laws.Message.{within-both}
-use Rattle.omnistat.proofs.Laws.Omnistat.{write-after-read}
-use Rattle.thermostat.specs.Map.{contents, run, stored}
+use Rattle.omnistat.specs.Frame.{directed, firstOf}
+use Rattle.omnistat.specs.Message.{Request, Reply, poll, setFrom, pollGroup, acknowledge, negative, dataFrom, group, asMessage, bodyOf}
+use Rattle.omnistat.specs.Omnistat.{Addressed, addressed, read, write, writeBytes}
+use Rattle.omnistat.proofs.Laws.Outcome.{passed-not}
+use Rattle.omnistat.proofs.Laws.Message.{and-parts, within-both}
+use Rattle.omnistat.proofs.Laws.Heard.{message-read}
+use Rattle.omnistat.proofs.Laws.Output.{bytes-length}
+use Rattle.omnistat.proofs.Laws.Typed.{told}
+use Rattle.thermostat.specs.Map.{contents, run}
 use Rattle.thermostat.proofs.Laws.Map.{contents-run}
 use Rattle.thermostat.specs.Step.{isFor, allSettable, allListed, registersOf, replyTo, changed, replyBytes, sentBy, mapAfter, Done, done, step, mapOf, sentOf}
 
@@ -32,80 +34,62 @@ chosen b x y e = ap (λ (t : Bool). cond t x y) e
 pub not-chosen : {A : Type 0} (b : Bool) (x y : A) → b ≡ false → cond b x y ≡ y
 not-chosen b x y e = ap (λ (t : Bool). cond t x y) e
 
--- ---- the writer accepts every reply
+-- ---- the writer accepts every reply, and each fits the least room
 
-module _ (own : ℕ) (l : 1 ≤ own) (h : own ≤ 127) where
-  number : within 1 127 own ≡ true
-  number = simp (le-leb 1 own l, le-leb own 127 h)
+-- a reply that its own type and data bytes make
+abbrev Made : Reply → Type 0
+Made reply = asMessage Host (bodyOf Host reply .kind) (bodyOf Host reply .payload) ≡ accepted reply
 
-  pub acknowledged : write Host own acknowledge ≡ accepted (replyBytes own acknowledge)
-  unfolding writeBytes asReply
-  acknowledged = ap (λ (b : Bool). refuseIf (not b) 8 (accepted (replyBytes own acknowledge))) number
+pub acknowledge-made : Made acknowledge
+unfolding asMessage
+acknowledge-made = refl
 
-  pub refused-politely : write Host own negative ≡ accepted (replyBytes own negative)
-  unfolding writeBytes asReply
-  refused-politely = ap (λ (b : Bool). refuseIf (not b) 8 (accepted (replyBytes own negative))) number
+pub negative-made : Made negative
+unfolding asMessage
+negative-made = refl
 
-  module _ (m : List ℕ) where
-    pub first-sent : write Host own (group First (contents m (registersOf First))) ≡ accepted (replyBytes own (group First (contents m (registersOf First))))
-    unfolding writeBytes asReply
-    first-sent = ap (λ (b : Bool). refuseIf (not b) 8 (accepted (replyBytes own (group First (contents m (registersOf First)))))) number
+pub group-made : (m : List ℕ) (g : Group) → Made (group g (contents m (registersOf g)))
+unfolding asMessage
+group-made m First = refl
+group-made m Second = refl
+group-made m Third = refl
 
-    pub second-sent : write Host own (group Second (contents m (registersOf Second))) ≡ accepted (replyBytes own (group Second (contents m (registersOf Second))))
-    unfolding writeBytes asReply
-    second-sent = ap (λ (b : Bool). refuseIf (not b) 8 (accepted (replyBytes own (group Second (contents m (registersOf Second)))))) number
+data-made : (start : ℕ) (values : List ℕ) → 1 ≤ length values → length values ≤ 14 → runAllowed start (length values) ≡ true
+    → Made (dataFrom start values)
+unfolding asMessage
+data-made start values a b r = simp (le-leb 1 (length values) a, le-leb (length values) 14 b, r)
 
-    pub third-sent : write Host own (group Third (contents m (registersOf Third))) ≡ accepted (replyBytes own (group Third (contents m (registersOf Third))))
-    unfolding writeBytes asReply
-    third-sent = ap (λ (b : Bool). refuseIf (not b) 8 (accepted (replyBytes own (group Third (contents m (registersOf Third)))))) number
+-- what a writer of these bytes answers and leaves
+abbrev pub Sends : List ℕ → List ℕ → Outcome ℕ → List ℕ → Type 0
+Sends old bytes w out = (w ≡ accepted (length bytes)) × (out ≡ outAfter (accepted bytes) old)
 
-  pub data-sent : (start : ℕ) (values : List ℕ) → 1 ≤ length values → length values ≤ 14 → runAllowed start (length values) ≡ true
-      → write Host own (dataFrom start values) ≡ accepted (replyBytes own (dataFrom start values))
-  unfolding writeBytes asReply
-  data-sent start values a b r = simp (le-leb 1 (length values) a, le-leb (length values) 14 b, r, number)
+-- the same of a reply that goes by another name too
+module _ (own : ℕ) (l : 1 ≤ own) (h : own ≤ 127) (old : List ℕ) (b : 18 ≤ length old) where
+  in-room : (reply : Reply) → Made reply → inRoom (length old) (write Host own reply) ≡ accepted (replyBytes own reply)
+  unfolding writeBytes
+  in-room reply e =
+      let n : directed Host (firstOf Host own) ≡ true = simp (le-leb 129 (own + 128) (omega arith), le-leb (own + 128) 255 (omega arith)) in
+      let f : length (replyBytes own reply) ≤ length old
+      = omega (arith, told Host _ _ reply e .1 .1, bytes-length (firstOf Host own) (bodyOf Host reply .kind) (bodyOf Host reply .payload)) in
+      simp (e, n) (with-room (length old) (replyBytes own reply) f)
 
--- ---- every reply fits the least room
+  pub replied : (q reply : Reply) → q ≡ reply → Made reply → (w : Outcome ℕ) (out : List ℕ)
+      → (w ≡ onAccepted length (inRoom (length old) (write Host own reply))) × (out ≡ outAfter (inRoom (length old) (write Host own reply)) old)
+      → Sends old (replyBytes own q) w out
+  replied q reply k e w out p =
+      let i = in-room reply e ∙ ap (λ (x : Reply). accepted (replyBytes own x)) (sym k) in
+      (p .0 ∙ ap (λ (o : Outcome (List ℕ)). onAccepted length o) i, p .1 ∙ ap (λ (o : Outcome (List ℕ)). outAfter o old) i)
 
-pub framed-length : (first kind : ℕ) (payload : List ℕ) → length (bytesOf (framed first kind payload)) ≡ length payload + 3
-unfolding bytesOf
-framed-length first kind payload = simp (length-append) (omega arith)
-
-pub short : (own : ℕ) (reply : Reply (List ℕ)) (room : ℕ) → length (replyPayload reply) ≤ 15 → 18 ≤ room → length (replyBytes own reply) ≤ room
-short own reply room a b = omega (arith, framed-length (firstOf Host own) (replyKind reply) (replyPayload reply))
-
--- what the writer answers and leaves, where it accepts what fits
-module _ (room : ℕ) (o : Outcome (List ℕ)) (bytes : List ℕ) (e : o ≡ accepted bytes) (l : length bytes ≤ room) where
-  in-room : inRoom room o ≡ accepted bytes
-  in-room = ap (λ (x : Outcome (List ℕ)). inRoom room x) e ∙ with-room room bytes l
-
-  pub count-sent : (w : Outcome ℕ) → w ≡ onAccepted length (inRoom room o) → w ≡ accepted (length bytes)
-  count-sent w p = p ∙ ap (λ (x : Outcome (List ℕ)). onAccepted length x) in-room
-
-  pub left-sent : (old out : List ℕ) → out ≡ outAfter (inRoom room o) old → out ≡ outAfter (accepted bytes) old
-  left-sent old out p = p ∙ ap (λ (x : Outcome (List ℕ)). outAfter x old) in-room
-
--- the same for a reply that is known by another name
-module _ (own room : ℕ) (q reply : Reply (List ℕ)) (k : q ≡ reply) (o : Outcome (List ℕ)) (e : o ≡ accepted (replyBytes own reply))
-    (a : length (replyPayload reply) ≤ 15) (b : 18 ≤ room) where
-  pub counted : (w : Outcome ℕ) → w ≡ onAccepted length (inRoom room o) → w ≡ accepted (length (replyBytes own q))
-  counted w p =
-      count-sent room o (replyBytes own reply) e (short own reply room a b) w p
-      ∙ ap (λ (x : Reply (List ℕ)). accepted (length (replyBytes own x))) (sym k)
-
-  pub left-behind : (old out : List ℕ) → out ≡ outAfter (inRoom room o) old → out ≡ outAfter (accepted (replyBytes own q)) old
-  left-behind old out p =
-      left-sent room o (replyBytes own reply) e (short own reply room a b) old out p
-      ∙ ap (λ (x : Reply (List ℕ)). outAfter (accepted (replyBytes own x)) old) (sym k)
+-- a group known by its name
+pub group-sends : (own : ℕ) (m old : List ℕ) (g h : Group) → g ≡ h → (w : Outcome ℕ) (out : List ℕ)
+    → Sends old (replyBytes own (replyTo m (pollGroup h))) w out → Sends old (replyBytes own (replyTo m (pollGroup g))) w out
+group-sends own m old g h e w out p = subst (λ (x : Group). Sends old (replyBytes own (replyTo m (pollGroup x))) w out) (sym e) p
 
 -- ---- a poll
 
-both : (a b : Bool) → (a && b) ≡ true → a ≡ true
-both true b e = refl
-both false b e = let z : _≡_ {A = ℕ} 0 1 = cc in absurd (omega arith)
-
 pub run-end : (start count : ℕ) → runAllowed start count ≡ true → start + count ≤ 256
 unfolding runAllowed
-run-end start count e = leb-true (start + count) 256 (both (leb (start + count) 256) _ e)
+run-end start count e = leb-true (start + count) 256 (and-parts (leb (start + count) 256) _ e .0)
 
 module _ (m : List ℕ) (start count : ℕ) (s : length m ≡ 256) (r : runAllowed start count ≡ true) where
   -- the part of the map that the code lends
@@ -131,21 +115,21 @@ module _ (m : List ℕ) (start count : ℕ) (s : length m ≡ 256) (r : runAllow
   pub not-reported : allListed (run start count) ≡ false → replyTo m (poll start count) ≡ negative
   not-reported e = not-chosen (allListed (run start count)) (dataFrom start (contents m (run start count))) negative e
 
-  pub part-sent : (own : ℕ) → 1 ≤ own → own ≤ 127 → 1 ≤ count → count ≤ 14
-      → write Host own (dataFrom start part) ≡ accepted (replyBytes own (dataFrom start part))
-  part-sent own a b d f =
+  pub part-made : 1 ≤ count → count ≤ 14 → Made (dataFrom start part)
+  part-made d f =
       let l : 1 ≤ length part = omega (arith, part-length) in
       let h : length part ≤ 14 = omega (arith, part-length) in
-      data-sent own a b start part l h (ap (λ (n : ℕ). runAllowed start n) part-length ∙ r)
+      data-made start part l h (ap (λ (n : ℕ). runAllowed start n) part-length ∙ r)
+
+-- ---- a set
+
+pub confirmed : (own start : ℕ) (m values old : List ℕ) (taken : Bool) → taken ≡ allSettable start values → (w : Outcome ℕ) (out : List ℕ)
+    → Sends old (replyBytes own (cond taken acknowledge negative)) w out → Sends old (replyBytes own (replyTo m (setFrom start values))) w out
+confirmed own start m values old taken e w out p = subst (λ (b : Bool). Sends old (replyBytes own (cond b acknowledge negative)) w out) e p
 
 -- ---- who is answered
 
-module _ (own first : ℕ) (m : List ℕ) (q : Request (List ℕ)) where
-  pub unheard : isFor own first ≡ false → sentBy own m (addressed first q) ≡ []
-  unfolding sentBy
-  unheard e =
-      not-chosen (isFor own first) (cond (eqb first 0) [] (replyBytes own (replyTo m q))) [] e
-
+module _ (own first : ℕ) (m : List ℕ) (q : Request) where
   pub unheard-map : isFor own first ≡ false → mapAfter own m (addressed first q) ≡ m
   unfolding mapAfter
   unheard-map e = not-chosen (isFor own first) (changed m q) m e
@@ -154,52 +138,52 @@ module _ (own first : ℕ) (m : List ℕ) (q : Request (List ℕ)) where
   unfolding mapAfter
   heard-map e = chosen (isFor own first) (changed m q) m e
 
-  pub unanswered : isFor own first ≡ true → first ≡ 0 → sentBy own m (addressed first q) ≡ []
-  unfolding sentBy
-  unanswered e z =
-      chosen (isFor own first) (cond (eqb first 0) [] (replyBytes own (replyTo m q))) [] e
-      ∙ chosen (eqb first 0) [] (replyBytes own (replyTo m q)) (eq-eqb first 0 z)
+  module _ (old : List ℕ) where
+    sent-as : (bytes : List ℕ) → sentBy own m (addressed first q) ≡ bytes → (w : Outcome ℕ) (out : List ℕ) → Sends old bytes w out
+        → Sends old (sentBy own m (addressed first q)) w out
+    sent-as bytes e w out p = subst (λ (x : List ℕ). Sends old x w out) (sym e) p
 
-  pub answered : isFor own first ≡ true → (first ≡ 0 → ⊥) → sentBy own m (addressed first q) ≡ replyBytes own (replyTo m q)
-  unfolding sentBy
-  answered e n =
-      chosen (isFor own first) (cond (eqb first 0) [] (replyBytes own (replyTo m q))) [] e
-      ∙ not-chosen (eqb first 0) [] (replyBytes own (replyTo m q)) (ne-eqb first 0 n)
+    pub unheard : isFor own first ≡ false → Sends old (sentBy own m (addressed first q)) (accepted 0) old
+    unfolding sentBy
+    unheard e =
+        sent-as [] (not-chosen (isFor own first) (cond (eqb first 0) [] (replyBytes own (replyTo m q))) [] e) (accepted 0) old (refl, refl)
 
--- what a count and an output of these bytes are, under another name
-module _ (bytes named : List ℕ) (e : named ≡ bytes) where
-  pub same-count : (w : Outcome ℕ) → w ≡ accepted (length bytes) → w ≡ accepted (length named)
-  same-count w p = p ∙ ap (λ (x : List ℕ). accepted (length x)) (sym e)
+    pub unanswered : isFor own first ≡ true → first ≡ 0 → Sends old (sentBy own m (addressed first q)) (accepted 0) old
+    unfolding sentBy
+    unanswered e z =
+        sent-as []
+        (chosen (isFor own first) (cond (eqb first 0) [] (replyBytes own (replyTo m q))) [] e
+        ∙ chosen (eqb first 0) [] (replyBytes own (replyTo m q)) (eq-eqb first 0 z))
+        (accepted 0) old (refl, refl)
 
-  pub same-left : (old out : List ℕ) → out ≡ outAfter (accepted bytes) old → out ≡ outAfter (accepted named) old
-  same-left old out p = p ∙ ap (λ (x : List ℕ). outAfter (accepted x) old) (sym e)
+    pub answered : isFor own first ≡ true → (first ≡ 0 → ⊥) → (w : Outcome ℕ) (out : List ℕ) → Sends old (replyBytes own (replyTo m q)) w out
+        → Sends old (sentBy own m (addressed first q)) w out
+    unfolding sentBy
+    answered e n =
+        sent-as (replyBytes own (replyTo m q))
+        (chosen (isFor own first) (cond (eqb first 0) [] (replyBytes own (replyTo m q))) [] e
+        ∙ not-chosen (eqb first 0) [] (replyBytes own (replyTo m q)) (ne-eqb first 0 n))
 
 -- ---- what a message that was read says of its registers
 
 module _ (s : List ℕ) (first start : ℕ) where
   pub poll-read : (count : ℕ) → read Thermostat s ≡ accepted (addressed first (poll start count))
       → ((1 ≤ count) × (count ≤ 14)) × (runAllowed start count ≡ true)
-  unfolding writeBytes asRequest
+  unfolding asMessage
   poll-read count e =
+      let q = poll start count in
       let p =
-      then-accepted (asMessage Thermostat 0 (start ∷ count ∷ []))
-      (λ n. refuseIf (not (addressable Thermostat first)) 8 (accepted (bytesOf (framed first 0 (start ∷ count ∷ []))))) s
-      (write-after-read Thermostat first (poll start count) s e) in
-      let q = passed-not 8 (refuseIf (not (runAllowed start count)) 8 (accepted (poll start count))) (p .0) (within 1 14 count) (p .1) in
-      let r = passed-not 8 (accepted (poll start count)) (p .0) (runAllowed start count) (q .1) in
-      (within-both 1 14 count (q .0), r .0)
+      and-parts (within 1 14 count) (runAllowed start count)
+      (passed-not 8 (accepted q) q (within 1 14 count && runAllowed start count) (message-read Thermostat first q s e .0) .0) in
+      (within-both 1 14 count (p .0), p .1)
 
   pub set-read : (values : List ℕ) → read Thermostat s ≡ accepted (addressed first (setFrom start values)) → start + length values ≤ 256
-  unfolding writeBytes asRequest
+  unfolding asMessage
   set-read values e =
-      let p =
-      then-accepted (asMessage Thermostat 1 (start ∷ values))
-      (λ n. refuseIf (not (addressable Thermostat first)) 8 (accepted (bytesOf (framed first 1 (start ∷ values))))) s
-      (write-after-read Thermostat first (setFrom start values) s e) in
-      let q =
-      passed-not 7 (refuseIf (not (runAllowed start (length values))) 8 (accepted (setFrom start values))) (p .0) (within 1 14 (length values)) (p .1) in
-      let r = passed-not 8 (accepted (setFrom start values)) (p .0) (runAllowed start (length values)) (q .1) in
-      run-end start (length values) (r .0)
+      let q = setFrom start values in
+      let n = length values in
+      let p = passed-not 7 (refuseIf (not (runAllowed start n)) 8 (accepted q)) q (within 1 14 n) (message-read Thermostat first q s e .0) in
+      run-end start n (passed-not 8 (accepted q) q (runAllowed start n) (p .1) .0)
 
 -- ---- the checks of a step
 
@@ -228,32 +212,26 @@ module _ (own : ℕ) (m s : List ℕ) (room : ℕ) where
         after-checks = simp (le-ltb room 18 a, eq-eqb (length m) 256 b, le-leb 1 own l, le-leb own 127 h)
 
         pub reader-refuses : (n : ℕ) → read Thermostat s ≡ refused n → step own m s room ≡ refused n
-        reader-refuses n e = after-checks ∙ ap (λ (o : Outcome (Addressed (Request (List ℕ)))). onAccepted (done own m) o) e
+        reader-refuses n e = after-checks ∙ ap (λ (o : Outcome (Addressed Request)). onAccepted (done own m) o) e
 
-        pub stepped : (q : Addressed (Request (List ℕ))) → read Thermostat s ≡ accepted q → step own m s room ≡ accepted (done own m q)
-        stepped q e = after-checks ∙ ap (λ (o : Outcome (Addressed (Request (List ℕ)))). onAccepted (done own m) o) e
+        pub stepped : (q : Addressed Request) → read Thermostat s ≡ accepted q → step own m s room ≡ accepted (done own m q)
+        stepped q e = after-checks ∙ ap (λ (o : Outcome (Addressed Request)). onAccepted (done own m) o) e
 
 -- ---- the three parts of a step's promise, by what the step is
 
 abbrev pub Promise : Outcome Done → Outcome ℕ → List ℕ → List ℕ → List ℕ → List ℕ → Type 0
 Promise o w m map old out = (w ≡ onAccepted length (sentOf o)) × ((map ≡ mapOf o m) × (out ≡ outAfter (sentOf o) old))
 
-pub when-refused : (o : Outcome Done) (n : ℕ) (m old : List ℕ) → o ≡ refused n → Promise o (refused n) m m old old
-when-refused o n m old e = (
-  ap (λ (x : Outcome Done). onAccepted length (sentOf x)) (sym e),
-  (ap (λ (x : Outcome Done). mapOf x m) (sym e), ap (λ (x : Outcome Done). outAfter (sentOf x) old) (sym e)),
-)
+module _ (own : ℕ) (m s old : List ℕ) where
+  pub when-refused : (n : ℕ) → step own m s (length old) ≡ refused n → Promise (step own m s (length old)) (refused n) m m old old
+  when-refused n e = subst (λ (o : Outcome Done). Promise o (refused n) m m old old) (sym e) (refl, (refl, refl))
 
-pub when-done : (o : Outcome Done) (own : ℕ) (q : Addressed (Request (List ℕ))) (w : Outcome ℕ) (m map old out : List ℕ) → o ≡ accepted (done own m q)
-    → w ≡ accepted (length (sentBy own m q)) → map ≡ mapAfter own m q → out ≡ outAfter (accepted (sentBy own m q)) old
-    → Promise o w m map old out
-when-done o own q w m map old out e a b d = (
-  a ∙ ap (λ (x : Outcome Done). onAccepted length (sentOf x)) (sym e),
-  (b ∙ ap (λ (x : Outcome Done). mapOf x m) (sym e), d ∙ ap (λ (x : Outcome Done). outAfter (sentOf x) old) (sym e)),
-)
+  pub when-done : (q : Addressed Request) (w : Outcome ℕ) (map out : List ℕ) → step own m s (length old) ≡ accepted (done own m q)
+      → map ≡ mapAfter own m q → Sends old (sentBy own m q) w out → Promise (step own m s (length old)) w m map old out
+  when-done q w map out e b p = subst (λ (o : Outcome Done). Promise o w m map old out) (sym e) (p .0, (b, p .1))
 
 -- a message that sets nothing leaves the map
-pub only-sets : (own : ℕ) (m : List ℕ) (first : ℕ) (q : Request (List ℕ)) → changed m q ≡ m → m ≡ mapAfter own m (addressed first q)
+pub only-sets : (own : ℕ) (m : List ℕ) (first : ℕ) (q : Request) → changed m q ≡ m → m ≡ mapAfter own m (addressed first q)
 unfolding mapAfter
 only-sets own m first q e = go (isFor own first)
   where

@@ -1,6 +1,6 @@
 -- Temperatures: each byte's is exact, and the way back finds the one byte that can be meant. Every test over the 256 bytes is computed. Assumes nothing.
 use mathlib.Core.Path.{_≡_, refl, sym, ap, _∙_, subst}
-use mathlib.Core.Bool.{Bool, true, false, not, cond, _&&_, _||_, Bool·beq}
+use mathlib.Core.Bool.{Bool, true, false, not, cond, _&&_, _||_}
 use mathlib.Core.List.{List, [], _∷_}
 use mathlib.Core.Logic.{_⊎_, inl, inr, ⊎-elim}
 use Prim.Native.Nat.{ℕ, zero, suc, _+_, _-_, _*_, _<_, _≤_}
@@ -8,13 +8,13 @@ use native.Mathlib.Nat.{add-zero, zero-add, add-suc, suc-add, le-of-suc-le-suc, 
 use native.Mathlib.Omega.{arith}
 use lib.Dec.{T, eqb, ltb}
 use lib.Count.{trailingZeros}
-use lib.IntN.{ℤ, pos, negsuc}
+use lib.IntN.{pos}
 use lib.Ieee.{Float, nan, inf, fin, binary32, up, down, level, round, size, span, climb, units, odd, mul, sub, add, neg, sum, ofInt, ofBits, ofFields, lt, eq, toUnsigned, fits}
 use lib.Ieee.Fits.{round-fits}
 use borrow.Author.Tests.{eqb-true}
 use Rattle.answer.specs.Answer.{Outcome, refused, accepted}
-use Rattle.thermostat.specs.Temperature.{celsius, belowZero, halves, firstEqual, byteOf}
-use Rattle.thermostat.proofs.Laws.Table.{below, each, holds, both-left, both-right}
+use Rattle.thermostat.specs.Temperature.{celsius, firstEqual, byteOf}
+use Rattle.thermostat.proofs.Laws.Table.{below, holds, both-left, both-right}
 use Rattle.thermostat.proofs.Laws.Float.{equal, zeroOf}
 
 -- ---- two functions that give the same at every byte, by a computed list of their values
@@ -50,9 +50,9 @@ isHalves nan s k = false
 isHalves (inf t) s k = false
 isHalves (fin t m e) s k = level t (m * up e * 2) s (k * down e)
 
-pub exact : (n : ℕ) → n < 256 → isHalves (celsius n) (belowZero n) (halves n) ≡ true
+pub exact : (n : ℕ) → n < 256 → isHalves (celsius n) (ltb n 80) ((n - 80) + (80 - n)) ≡ true
 unfolding celsius round size span climb units odd trailingZeros
-exact n h = holds (isHalves (celsius n) (belowZero n) (halves n)) (below (λ k. isHalves (celsius k) (belowZero k) (halves k)) 256 tt n h)
+exact n h = holds (isHalves (celsius n) (ltb n 80) ((n - 80) + (80 - n))) (below (λ k. isHalves (celsius k) (ltb k 80) ((k - 80) + (80 - k))) 256 tt n h)
 
 -- ---- back
 
@@ -90,7 +90,7 @@ only-80 n h e = go (isZero (celsius n)) e (below (λ k. not (isZero (celsius k))
 
 celsius-fits : (n : ℕ) → T (fits binary32 (celsius n))
 unfolding celsius
-celsius-fits n = round-fits binary32 (belowZero n) (halves n) 2
+celsius-fits n = round-fits binary32 (ltb n 80) ((n - 80) + (80 - n)) 2
 
 module _ (x : Float) (f : T (fits binary32 x)) where
   found : (n : ℕ) → n < 256 → eq x (celsius n) ≡ true → T (finds x n)

@@ -1,7 +1,4 @@
-use mathlib.Core.Path.{ap, _∙_}
-use Rattle.answer.specs.Answer.{onAccepted}
-use Rattle.answer.specs.Packed.{packed}
-use Rattle.omnistat.specs.Answer.{replyFields}
+use denote.Ref.{now}
 use borrow.Author.Needs.{needs}
 use Rattle.host.proofs.omnistat2.omnistat_read_at_host.Statement.{statement}
 use Rattle.host.proofs.omnistat2.omnistat_read_at_host.Tie as tie
@@ -13,9 +10,7 @@ pack-reply-requires : tie.Need-pack-reply-requires
 pack-reply-requires c κs = search needs
 
 returns : tie.Need-returns
-returns c =
-    c .pack-reply .ensures
-    ∙ ap (λ o. packed (onAccepted replyFields o)) (c .before .read .ensures)
+returns c = c .pack-reply .ensures (now (c .before .before .before .args .bytes)) (c .before .read .ensures)
 
 pub omnistat-read-at-host-spec : {M : Type 1} → statement M
 omnistat-read-at-host-spec = tie.close (tie.spec read-requires pack-reply-requires returns)

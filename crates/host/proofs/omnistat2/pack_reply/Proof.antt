@@ -1,16 +1,25 @@
-use mathlib.Core.Path.{sym, ap, _∙_}
-use mathlib.Core.List.{[], _∷_}
+use mathlib.Core.Path.{_≡_, sym, ap, _∙_}
+use mathlib.Core.List.{List, [], _∷_}
 use Prim.Native.Nat.{ℕ}
-use Rattle.answer.specs.Answer.{accepted, onAccepted}
+use Rattle.answer.specs.Answer.{Outcome, accepted, onAccepted}
 use Rattle.answer.specs.Packed.{packed, byte}
 use Rattle.omnistat.specs.declared.reply.Reply.{Reply}
-use Rattle.omnistat.specs.Answer.{replyOf, replyFields}
+use Rattle.omnistat.specs.declared.frame.End.the-variants.{Host}
+use Rattle.omnistat.specs.Group.{replyType}
+use Rattle.omnistat.specs.Message.{Message}
+use Rattle.omnistat.specs.Omnistat.{Addressed, read}
+use Rattle.omnistat.specs.Answer.{replyIn, fields}
+use Rattle.omnistat.proofs.Laws.Heard.{data-count, group-count}
 use borrow.Author.Needs.{needs}
 use Rattle.host.proofs.omnistat2.pack_reply.Statement.{statement}
 use Rattle.host.proofs.omnistat2.pack_reply.Tie as tie
 
-abbrev packedOf : Reply → ℕ
-packedOf r = packed (onAccepted replyFields (replyOf r))
+abbrev packedAs : Outcome (Addressed (Message Host)) → ℕ
+packedAs o = packed (onAccepted (fields Host) o)
+
+-- by the answer's case, and by what was read
+read-as : (s : List ℕ) (r q : Reply) → replyIn s r ≡ read Host s → r ≡ q → (n : ℕ) → n ≡ packedAs (replyIn s q) → n ≡ packedAs (read Host s)
+read-as s r q e k n p = p ∙ ap (λ (x : Reply). packedAs (replyIn s x)) (sym k) ∙ ap packedAs e
 
 enum-known-r : tie.Need-enum-known-r
 enum-known-r c = search needs
@@ -46,23 +55,33 @@ pack-4-bytes-requires-4 : tie.Need-pack-4-bytes-requires-4
 pack-4-bytes-requires-4 c κs = search needs
 
 returns : tie.Need-returns
-returns c = search needs
+returns c s e = read-as s _ _ e (c .before .before .r .given .1) _ (c .pack-refusal .ensures)
 
 returns-2 : tie.Need-returns-2
-returns-2 c = c .pack-4-bytes .ensures ∙ ap packedOf (sym (c .before .before .r2 .given .1))
+returns-2 c s e = read-as s _ _ e (c .before .before .r2 .given .1) _ (c .pack-4-bytes .ensures)
 
 returns-3 : tie.Need-returns-3
-returns-3 c = c .pack-4-bytes2 .ensures ∙ ap packedOf (sym (c .before .before .r3 .given .1))
+returns-3 c s e = read-as s _ _ e (c .before .before .r3 .given .1) _ (c .pack-4-bytes2 .ensures)
 
 returns-4 : tie.Need-returns-4
-returns-4 c = c .pack-4-bytes3 .ensures ∙ ap packedOf (sym (c .before .before .r4 .given .1))
+returns-4 c s e =
+    let g = c .before .before .r4 .given in
+    let w = g .0 in
+    let h = sym e ∙ ap (replyIn s) (g .1) in
+    read-as s _ _ e (g .1) _
+    (c .pack-4-bytes3 .ensures
+    ∙ ap (λ (k : ℕ). packed (accepted (byte 2 ∷ byte (w .0) ∷ byte (w .1 .0) ∷ byte k ∷ []))) (sym (data-count (w .0) s (w .1 .1 .0) (w .1 .0) h)))
 
 returns-5 : tie.Need-returns-5
-returns-5 c =
-    let w = c .before .before .before .r5 .given .0 in
-    c .pack-4-bytes4 .ensures
-    ∙ ap (λ (k : ℕ). packed (accepted (byte k ∷ byte (w .0) ∷ byte 0 ∷ byte (w .1 .1 .0) ∷ []))) (c .before .reply-type .ensures)
-    ∙ ap packedOf (sym (c .before .before .before .r5 .given .1))
+returns-5 c s e =
+    let g = c .before .before .before .r5 .given in
+    let w = g .0 in
+    let h = sym e ∙ ap (replyIn s) (g .1) in
+    let count = w .1 .1 .0 in
+    read-as s _ _ e (g .1) _
+    (c .pack-4-bytes4 .ensures
+    ∙ ap (λ (k : ℕ). packed (accepted (byte k ∷ byte (w .0) ∷ byte 0 ∷ byte count ∷ []))) (c .before .reply-type .ensures)
+    ∙ ap (λ (k : ℕ). packed (accepted (byte (replyType (w .1 .0)) ∷ byte (w .0) ∷ byte 0 ∷ byte k ∷ []))) (sym (group-count (w .0) s count (w .1 .0) h)))
 
 pub pack-reply-spec : {M : Type 1} → statement M
 pack-reply-spec =

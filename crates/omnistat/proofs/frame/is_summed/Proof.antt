@@ -1,10 +1,10 @@
 use mathlib.Core.Path.{ap}
-use Prim.Native.Nat.{ℕ, _≤_}
+use Prim.Native.Nat.{ℕ}
 use native.Mathlib.Omega.{arith}
 use borrow.Author.Needs.{needs}
 use denote.Ref.{now}
 use lib.Dec.{eqb}
-use lib.ListN.{length, getD}
+use lib.ListN.{getD}
 use lib.Seq.{length-take-le}
 use mathlib.Core.Path.{sym}
 use Rattle.omnistat.proofs.frame.is_summed.Statement.{statement}

@@ -1,12 +1,12 @@
-use Prim.Native.Nat.{ℕ, _-_}
+use Prim.Native.Nat.{ℕ, _+_, _-_, _/_}
 use mathlib.Core.Path.{_≡_, sym, ap, _∙_}
-use mathlib.Core.Bool.{true}
+use mathlib.Core.Bool.{true, false}
 use native.Mathlib.Omega.{arith}
 use borrow.Author.Tests.{not-true, not-false}
 use denote.Ref.{now}
 use lib.ListN.{getD}
-use Rattle.omnistat.specs.Frame.{directed, countedLength}
-use Rattle.omnistat.proofs.Laws.Frame.{sumTest, empty, misdirected, one-byte, short, long, unsummed, whole}
+use Rattle.omnistat.specs.Frame.{directed}
+use Rattle.omnistat.proofs.Laws.Frame.{sumTest, empty, misdirected, one-byte, short, long, judged}
 use borrow.Author.Needs.{needs}
 use Rattle.omnistat.proofs.frame.read.Statement.{statement}
 use Rattle.omnistat.proofs.frame.read.Tie as tie
@@ -16,7 +16,7 @@ went-on : (c : tie.Else2) → directed (c .before .before .before .before .befor
 went-on c = sym (c .before .is-directed .ensures) ∙ not-false _ (c .if2 .left)
 
 tested : (c : tie.After-is-summed)
-    → sumTest (now (c .before .before .before .before .before .before .before .before .before .before .before .args .bytes)) (countedLength (getD (now (c .before .before .before .before .before .before .before .before .before .before .before .args .bytes)) 1 0) - 1)
+    → sumTest (now (c .before .before .before .before .before .before .before .before .before .before .before .args .bytes)) (getD (now (c .before .before .before .before .before .before .before .before .before .before .before .args .bytes)) 1 0 / 16 + 3 - 1)
     ≡ c .is-summed .result
 tested c =
     ap (λ (n : ℕ). sumTest (now (c .before .before .before .before .before .before .before .before .before .before .before .args .bytes)) (n - 1)) (sym (c .before .before .before .counted-length .ensures))
@@ -67,14 +67,14 @@ returns-6 : tie.Need-returns-6
 returns-6 c =
     let a = c .before .before .before .before .before .before .before .before .before .before .before .before .args in
     sym
-    (unsummed (a .end) (now (a .bytes)) (omega arith) (went-on (c .before .before .before .before .before .before .before)) (omega arith)
+    (judged (a .end) false (now (a .bytes)) (omega arith) (went-on (c .before .before .before .before .before .before .before)) (omega arith)
     (tested (c .before) ∙ not-true _ (c .if6 .taken)))
 
 returns-7 : tie.Need-returns-7
 returns-7 c =
     let a = c .before .before .before .before .before .before .before .before .before .before .before .before .args in
     sym
-    (whole (a .end) (now (a .bytes)) (omega arith) (went-on (c .before .before .before .before .before .before .before)) (omega arith)
+    (judged (a .end) true (now (a .bytes)) (omega arith) (went-on (c .before .before .before .before .before .before .before)) (omega arith)
     (tested (c .before) ∙ not-false _ (c .if6 .left)))
 
 pub read-spec : {M : Type 1} → statement M

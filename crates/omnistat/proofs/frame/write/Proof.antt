@@ -1,13 +1,13 @@
 use mathlib.Core.Path.{_≡_, sym, ap, _∙_}
 use mathlib.Core.List.{List}
-use Prim.Native.Nat.{ℕ, _+_}
+use Prim.Native.Nat.{ℕ, _+_, _*_}
 use native.Mathlib.Omega.{arith}
 use denote.Ref.{now}
 use lib.ListN.{length, take, set, length-set}
 use lib.Seq.{length-take-le}
 use Rattle.answer.specs.Answer.{Outcome, refused, accepted, onAccepted, inRoom, outAfter}
 use Rattle.answer.proofs.Laws.Output.{begun, no-room, with-room}
-use Rattle.omnistat.specs.Frame.{framed, halves, sumOf, bytesOf}
+use Rattle.omnistat.specs.Frame.{framed, sumOf, bytesOf}
 use Rattle.omnistat.proofs.Laws.Output.{earlier, data-placed, earlier-bytes, sum-placed, bytes-length}
 use borrow.Author.Needs.{needs}
 use Rattle.omnistat.proofs.frame.write.Statement.{statement}
@@ -22,7 +22,7 @@ placed c =
     let a = c .before .before .before .before .before .args in
     let p = now (a .payload) in
     let old = now (a .out) in
-    c .copy .ensures ∙ data-placed (a .first) (halves (length p) (a .kind)) p old (omega arith)
+    c .copy .ensures ∙ data-placed (a .first) (length p * 16 + a .kind) p old (omega arith)
 
 kept : (c : tie.After-copy) → length (c .copy .last .0) ≡ length (now (c .before .before .before .before .before .args .out))
 kept c = c .copy .kept .0 ∙ simp length-set
@@ -37,7 +37,7 @@ returns c =
     let old = now (a .out) in
     let bytes = bytesOf (framed (a .first) (a .kind) p) in
     let e : inRoom (length old) (accepted bytes) ≡ refused 9
-    = no-room (length old) bytes (omega (arith, bytes-length (a .first) (a .kind) p old)) in
+    = no-room (length old) bytes (omega (arith, bytes-length (a .first) (a .kind) p)) in
     (ap (onAccepted length) (sym e), ap (λ (o : Outcome (List ℕ)). outAfter o old) (sym e))
 
 slice-write-out : tie.Need-slice-write-out
@@ -88,8 +88,8 @@ returns-2 c =
     let begin = earlier (a .first) (a .kind) p old in
     let here = placed (c .before .before .before .before) in
     let e : inRoom (length old) (accepted bytes) ≡ accepted bytes
-    = with-room (length old) bytes (omega (arith, bytes-length (a .first) (a .kind) p old)) in
-    let n : length p + 2 + 1 ≡ length bytes = omega (arith, bytes-length (a .first) (a .kind) p old) in
+    = with-room (length old) bytes (omega (arith, bytes-length (a .first) (a .kind) p)) in
+    let n : length p + 2 + 1 ≡ length bytes = omega (arith, bytes-length (a .first) (a .kind) p) in
     let s : c .sum .result ≡ sumOf begin
     = c .sum .ensures ∙ ap sumOf (ap (take (length p + 2)) here ∙ earlier-bytes (a .first) (a .kind) p old) in (
       ap accepted n ∙ ap (onAccepted length) (sym e),

@@ -1,22 +1,25 @@
-use mathlib.Core.Path.{_≡_, sym, ap, _∙_}
+use mathlib.Core.Path.{sym, ap, _∙_}
 use mathlib.Core.Bool.{true, false}
-use Prim.Native.Nat.{ℕ, _-_}
+use mathlib.Core.List.{List}
+use Prim.Native.Nat.{ℕ, _<_}
 use native.Mathlib.Omega.{arith}
 use borrow.Author.Tests.{not-true, not-false}
 use denote.Ref.{now}
-use lib.ListN.{length, getD, drop, length-drop}
+use lib.ListN.{length, getD}
 use Rattle.answer.specs.Answer.{accepted}
-use Rattle.omnistat.specs.Answer.{span}
-use Rattle.omnistat.proofs.Laws.Message.{run-short, run-long, run-of}
+use Rattle.omnistat.proofs.Laws.Message.{run-short, run-long, run-of, values-taken}
 use borrow.Author.Needs.{needs}
 use Rattle.omnistat.proofs.message.read_run.Statement.{statement}
 use Rattle.omnistat.proofs.message.read_run.Tie as tie
 
+abbrev pair : ℕ → List ℕ → ℕ × List ℕ
+pair start values = (start, values)
+
 returns : tie.Need-returns
-returns c = sym (run-short span (now (c .before .before .args .payload)) (c .if1 .taken))
+returns c rest = sym (run-short pair (now (c .before .before .args .payload)) (c .if1 .taken))
 
 returns-2 : tie.Need-returns-2
-returns-2 c = sym (run-long span (now (c .before .before .before .args .payload)) (c .if2 .taken))
+returns-2 c rest = sym (run-long pair (now (c .before .before .before .args .payload)) (c .if2 .taken))
 
 shared-slice-read-start : tie.Need-shared-slice-read-start
 shared-slice-read-start c = search needs
@@ -31,17 +34,17 @@ is-run-requires : tie.Need-is-run-requires
 is-run-requires c κs = search needs
 
 returns-3 : tie.Need-returns-3
-returns-3 c =
+returns-3 c rest =
     sym
-    (run-of span false (now (c .before .before .before .before .before .before .args .payload)) (omega arith) (omega arith)
+    (run-of pair false (now (c .before .before .before .before .before .before .args .payload)) (omega arith) (omega arith)
     (sym (c .before .is-run .ensures) ∙ not-true _ (c .if3 .taken)))
 
 returns-4 : tie.Need-returns-4
-returns-4 c =
+returns-4 c rest =
     let d = now (c .before .before .before .before .before .before .args .payload) in
-    let e : length (drop 1 d) ≡ length d - 1 = length-drop 1 d in
-    ap (λ (n : ℕ). accepted (record { start = getD d 0 0; count = n })) (sym e)
-    ∙ sym (run-of span true d (omega arith) (omega arith) (sym (c .before .is-run .ensures) ∙ not-false _ (c .if3 .left)))
+    let n : 0 < length d = omega arith in
+    ap (λ (v : List ℕ). accepted (getD d 0 0, v)) (values-taken d rest n)
+    ∙ sym (run-of pair true d (omega arith) (omega arith) (sym (c .before .is-run .ensures) ∙ not-false _ (c .if3 .left)))
 
 pub read-run-spec : {M : Type 1} → statement M
 read-run-spec =

@@ -1,8 +1,8 @@
 use mathlib.Core.Path.{sym, ap, _∙_}
 use denote.Ref.{now}
 use Rattle.answer.specs.Answer.{onAccepted}
-use Rattle.omnistat.specs.declared.group.Named.the-variants.{Of, Unknown}
-use Rattle.omnistat.specs.Answer.{heardReply}
+use Rattle.omnistat.specs.Omnistat.{addressed}
+use Rattle.omnistat.specs.Parts.{namedOf}
 use Rattle.omnistat.proofs.Laws.Message.{names-acknowledge, names-negative, names-data, names-group}
 use borrow.Author.Needs.{needs}
 use Rattle.omnistat.proofs.reply.as_reply.Statement.{statement}
@@ -12,25 +12,25 @@ as-acknowledge-requires : tie.Need-as-acknowledge-requires
 as-acknowledge-requires c κs = search needs
 
 returns : tie.Need-returns
-returns c =
+returns c rest =
     let a = c .before .before .before .args in
-    c .as-acknowledge .ensures ∙ ap (onAccepted (heardReply (a .number))) (sym (names-acknowledge (a .kind) (now (a .payload)) (c .before .if1 .taken)))
+    c .as-acknowledge .ensures rest ∙ ap (onAccepted (addressed (a .number))) (sym (names-acknowledge (a .kind) (now (a .payload)) (c .before .if1 .taken)))
 
 as-negative-requires : tie.Need-as-negative-requires
 as-negative-requires c κs = search needs
 
 returns-2 : tie.Need-returns-2
-returns-2 c =
+returns-2 c rest =
     let a = c .before .before .before .before .args in
-    c .as-negative .ensures ∙ ap (onAccepted (heardReply (a .number))) (sym (names-negative (a .kind) (now (a .payload)) (c .before .if2 .taken)))
+    c .as-negative .ensures rest ∙ ap (onAccepted (addressed (a .number))) (sym (names-negative (a .kind) (now (a .payload)) (c .before .if2 .taken)))
 
 as-data-requires : tie.Need-as-data-requires
 as-data-requires c κs = search needs
 
 returns-3 : tie.Need-returns-3
-returns-3 c =
+returns-3 c rest =
     let a = c .before .before .before .before .before .args in
-    c .as-data .ensures ∙ ap (onAccepted (heardReply (a .number))) (sym (names-data (a .kind) (now (a .payload)) (c .before .if3 .taken)))
+    c .as-data .ensures rest ∙ ap (onAccepted (addressed (a .number))) (sym (names-data (a .kind) (now (a .payload)) (c .before .if3 .taken)))
 
 replied-requires : tie.Need-replied-requires
 replied-requires c κs = search needs
@@ -45,21 +45,21 @@ enum-told : tie.Need-enum-told
 enum-told c = search needs
 
 returns-4 : tie.Need-returns-4
-returns-4 c =
+returns-4 c rest =
     let a = c .before .before .before .before .before .before .before .before .before .args in
-    c .as-group .ensures
-    ∙ ap (onAccepted (heardReply (a .number)))
+    c .as-group .ensures rest
+    ∙ ap (onAccepted (addressed (a .number)))
     (sym
-    (names-group (a .kind) (now (a .payload)) (c .before .before .before .before .before .before .before .if1 .left) (c .before .before .before .before .before .before .if2 .left) (c .before .before .before .before .before .if3 .left) (Of (c .before .before .group .given .0 .0))
-    (sym (c .before .before .group .given .1) ∙ c .before .before .before .before .replied .ensures)))
+    (names-group (a .kind) (now (a .payload)) (c .before .before .before .before .before .before .before .if1 .left) (c .before .before .before .before .before .before .if2 .left) (c .before .before .before .before .before .if3 .left) _
+    (ap namedOf (sym (c .before .before .group .given .1)) ∙ c .before .before .before .before .replied .ensures)))
 
 returns-5 : tie.Need-returns-5
-returns-5 c =
+returns-5 c rest =
     let a = c .before .before .before .before .before .before .before .args in
-    ap (onAccepted (heardReply (a .number)))
+    ap (onAccepted (addressed (a .number)))
     (sym
-    (names-group (a .kind) (now (a .payload)) (c .before .before .before .before .before .if1 .left) (c .before .before .before .before .if2 .left) (c .before .before .before .if3 .left) Unknown
-    (sym (c .enum-told .given .1) ∙ c .before .before .replied .ensures)))
+    (names-group (a .kind) (now (a .payload)) (c .before .before .before .before .before .if1 .left) (c .before .before .before .before .if2 .left) (c .before .before .before .if3 .left) _
+    (ap namedOf (sym (c .enum-told .given .1)) ∙ c .before .before .replied .ensures)))
 
 pub as-reply-spec : {M : Type 1} → statement M
 as-reply-spec =

@@ -1,10 +1,8 @@
-use mathlib.Core.Path.{sym, ap, _∙_}
 use denote.Ref.{now}
-use Rattle.answer.specs.Answer.{onAccepted}
-use Rattle.omnistat.specs.declared.reply.Reply.{Reply}
-use Rattle.omnistat.specs.Message.{asReply}
-use Rattle.omnistat.specs.Answer.{passed, replyOf, heardReply}
-use Rattle.omnistat.proofs.Laws.Outcome.{checked}
+use Rattle.omnistat.specs.declared.frame.End.the-variants.{Host}
+use Rattle.omnistat.specs.Message.{asMessage}
+use Rattle.omnistat.specs.Answer.{replyIn}
+use Rattle.omnistat.proofs.Laws.Heard.{checked}
 use borrow.Author.Needs.{needs}
 use Rattle.omnistat.proofs.reply.check.Statement.{statement}
 use Rattle.omnistat.proofs.reply.check.Tie as tie
@@ -30,32 +28,27 @@ enum-told-4 c = search needs
 returns : tie.Need-returns
 returns c =
     let a = c .before .before .before .before .before .args in
-    ap (λ (r : Reply). onAccepted passed (replyOf r)) (sym (c .before .r .given .1))
-    ∙ checked (heardReply 0) (asReply (a .kind) (now (a .payload))) _ (c .before .before .before .as-reply .ensures)
+    checked replyIn (now (a .payload)) _ _ (asMessage Host (a .kind) (now (a .payload))) (c .before .before .before .as-reply .ensures) (c .before .r .given .1)
 
 returns-2 : tie.Need-returns-2
 returns-2 c =
     let a = c .before .before .before .before .args in
-    ap (λ (r : Reply). onAccepted passed (replyOf r)) (sym (c .enum-told .given .1))
-    ∙ checked (heardReply 0) (asReply (a .kind) (now (a .payload))) _ (c .before .before .as-reply .ensures)
+    checked replyIn (now (a .payload)) _ _ (asMessage Host (a .kind) (now (a .payload))) (c .before .before .as-reply .ensures) (c .enum-told .given .1)
 
 returns-3 : tie.Need-returns-3
 returns-3 c =
     let a = c .before .before .before .before .args in
-    ap (λ (r : Reply). onAccepted passed (replyOf r)) (sym (c .enum-told2 .given .1))
-    ∙ checked (heardReply 0) (asReply (a .kind) (now (a .payload))) _ (c .before .before .as-reply .ensures)
+    checked replyIn (now (a .payload)) _ _ (asMessage Host (a .kind) (now (a .payload))) (c .before .before .as-reply .ensures) (c .enum-told2 .given .1)
 
 returns-4 : tie.Need-returns-4
 returns-4 c =
     let a = c .before .before .before .before .args in
-    ap (λ (r : Reply). onAccepted passed (replyOf r)) (sym (c .enum-told3 .given .1))
-    ∙ checked (heardReply 0) (asReply (a .kind) (now (a .payload))) _ (c .before .before .as-reply .ensures)
+    checked replyIn (now (a .payload)) _ _ (asMessage Host (a .kind) (now (a .payload))) (c .before .before .as-reply .ensures) (c .enum-told3 .given .1)
 
 returns-5 : tie.Need-returns-5
 returns-5 c =
     let a = c .before .before .before .before .args in
-    ap (λ (r : Reply). onAccepted passed (replyOf r)) (sym (c .enum-told4 .given .1))
-    ∙ checked (heardReply 0) (asReply (a .kind) (now (a .payload))) _ (c .before .before .as-reply .ensures)
+    checked replyIn (now (a .payload)) _ _ (asMessage Host (a .kind) (now (a .payload))) (c .before .before .as-reply .ensures) (c .enum-told4 .given .1)
 
 pub check-spec : {M : Type 1} → statement M
 check-spec =

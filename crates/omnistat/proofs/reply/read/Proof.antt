@@ -1,14 +1,16 @@
 use mathlib.Core.Path.{sym, ap, _∙_}
 use mathlib.Core.List.{List}
-use Prim.Native.Nat.{ℕ, _-_}
+use Prim.Native.Nat.{ℕ}
 use lib.ListN.{take, drop}
 use denote.Ref.{now}
 use Rattle.answer.specs.Answer.{onAccepted, numberOf}
 use Rattle.omnistat.specs.declared.frame.End.the-variants.{Host}
-use Rattle.omnistat.specs.Frame.{Frame}
-use Rattle.omnistat.specs.Message.{asReply}
-use Rattle.omnistat.specs.Answer.{framedIn, onMessage, countedReply, heardReply}
-use Rattle.omnistat.proofs.Laws.Omnistat.{read-refused, reply-heard, from-host}
+use Rattle.omnistat.specs.Frame.{Frame, addressOf}
+use Rattle.omnistat.specs.Message.{asMessage}
+use Rattle.omnistat.specs.Omnistat.{addressed}
+use Rattle.omnistat.specs.Parts.{framedIn}
+use Rattle.omnistat.proofs.Laws.Omnistat.{read-refused, read-whole, from-host}
+use Rattle.omnistat.proofs.Laws.Heard.{reply-in}
 use borrow.Author.Needs.{needs}
 use Rattle.omnistat.proofs.reply.read.Statement.{statement}
 use Rattle.omnistat.proofs.reply.read.Tie as tie
@@ -42,18 +44,17 @@ returns : tie.Need-returns
 returns c =
     let s = now (c .before .before .before .before .before .args .bytes) in
     sym
-    (ap (onAccepted (onMessage countedReply))
     (read-refused Host s (numberOf (c .before .r .given .0 .0))
-    (ap (framedIn s) (sym (c .before .r .given .1)) ∙ c .before .before .before .read .ensures)))
+    (ap (framedIn s) (sym (c .before .r .given .1)) ∙ c .before .before .before .read .ensures))
 
 returns-2 : tie.Need-returns-2
 returns-2 c =
     let s = now (c .before .before .before .before .before .before .before .args .bytes) in
     let w = c .before .before .before .first .given in
     let f : Frame = record { first = w .0 .0; kind = w .0 .1 .0; payload = take (w .0 .1 .1 .0) (drop 2 s) } in
-    c .as-reply .ensures
-    ∙ ap (λ (d : List ℕ). onAccepted (heardReply (f .first - 0x80)) (asReply (f .kind) d)) (c .before .part .ensures)
-    ∙ sym (reply-heard s f (ap (framedIn s) (sym (w .1)) ∙ c .before .before .before .before .before .read .ensures))
+    reply-in s _ (w .0 .1 .1 .0) (c .before .part .ensures) (c .as-reply .result) _ (c .as-reply .ensures)
+    ∙ ap (λ (d : List ℕ). onAccepted (addressed (addressOf Host (f .first))) (asMessage Host (f .kind) d)) (c .before .part .ensures)
+    ∙ sym (read-whole Host s f (ap (framedIn s) (sym (w .1)) ∙ c .before .before .before .before .before .read .ensures))
 
 pub read-spec : {M : Type 1} → statement M
 read-spec =

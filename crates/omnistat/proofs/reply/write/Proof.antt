@@ -1,10 +1,12 @@
 use mathlib.Core.Path.{_≡_, sym, ap, _∙_}
+use Prim.Native.Nat.{_+_}
 use borrow.Author.Tests.{not-true, not-false}
 use denote.Ref.{now}
 use Rattle.answer.specs.Answer.{accepted, onAccepted, numberOf}
 use Rattle.omnistat.specs.declared.frame.End.the-variants.{Host}
-use Rattle.omnistat.specs.Omnistat.{asMessage, writeBytes}
-use Rattle.omnistat.specs.Answer.{passed, checkOf}
+use Rattle.omnistat.specs.Message.{asMessage}
+use Rattle.omnistat.specs.Omnistat.{writeBytes}
+use Rattle.omnistat.specs.Parts.{passed, checkOf}
 use Rattle.omnistat.proofs.Laws.Omnistat.{write-refused, frame-fits, write-misaddressed, write-framed}
 use Rattle.omnistat.proofs.Laws.Output.{leaves-refused, leaves-same}
 use native.Mathlib.Omega.{arith}
@@ -41,7 +43,7 @@ add-write : tie.Need-add-write
 add-write c =
     omega (
       arith,
-      within-both 1 127 (c .before .before .before .before .before .before .before .args .number) (sym (c .before .is-number .ensures) ∙ not-false _ (c .if1 .left)) .1,
+      within-both 129 255 (c .before .before .before .before .before .before .before .args .number + 128) (sym (c .before .is-number .ensures) ∙ not-false _ (c .if1 .left)) .1,
     )
 
 write-requires : tie.Need-write-requires

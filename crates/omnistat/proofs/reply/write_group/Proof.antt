@@ -1,5 +1,4 @@
 use mathlib.Core.Path.{sym, ap}
-use mathlib.Core.List.{[]}
 use Prim.Native.Nat.{ℕ}
 use denote.Ref.{now}
 use Rattle.omnistat.specs.declared.frame.End.the-variants.{Host}

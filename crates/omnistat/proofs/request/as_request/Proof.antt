@@ -1,8 +1,8 @@
 use mathlib.Core.Path.{sym, ap, _∙_}
 use denote.Ref.{now}
 use Rattle.answer.specs.Answer.{onAccepted}
-use Rattle.omnistat.specs.declared.group.Named.the-variants.{Of, Unknown}
-use Rattle.omnistat.specs.Answer.{heardRequest}
+use Rattle.omnistat.specs.Omnistat.{addressed}
+use Rattle.omnistat.specs.Parts.{namedOf}
 use Rattle.omnistat.proofs.Laws.Message.{names-poll, names-set, names-group-poll}
 use borrow.Author.Needs.{needs}
 use Rattle.omnistat.proofs.request.as_request.Statement.{statement}
@@ -12,17 +12,17 @@ as-poll-requires : tie.Need-as-poll-requires
 as-poll-requires c κs = search needs
 
 returns : tie.Need-returns
-returns c =
+returns c rest =
     let a = c .before .before .before .args in
-    c .as-poll .ensures ∙ ap (onAccepted (heardRequest (a .first))) (sym (names-poll (a .kind) (now (a .payload)) (c .before .if1 .taken)))
+    c .as-poll .ensures rest ∙ ap (onAccepted (addressed (a .first))) (sym (names-poll (a .kind) (now (a .payload)) (c .before .if1 .taken)))
 
 as-set-requires : tie.Need-as-set-requires
 as-set-requires c κs = search needs
 
 returns-2 : tie.Need-returns-2
-returns-2 c =
+returns-2 c rest =
     let a = c .before .before .before .before .args in
-    c .as-set .ensures ∙ ap (onAccepted (heardRequest (a .first))) (sym (names-set (a .kind) (now (a .payload)) (c .before .if2 .taken)))
+    c .as-set .ensures rest ∙ ap (onAccepted (addressed (a .first))) (sym (names-set (a .kind) (now (a .payload)) (c .before .if2 .taken)))
 
 polled-requires : tie.Need-polled-requires
 polled-requires c κs = search needs
@@ -37,21 +37,21 @@ enum-told : tie.Need-enum-told
 enum-told c = search needs
 
 returns-3 : tie.Need-returns-3
-returns-3 c =
+returns-3 c rest =
     let a = c .before .before .before .before .before .before .before .before .args in
-    c .as-group-poll .ensures
-    ∙ ap (onAccepted (heardRequest (a .first)))
+    c .as-group-poll .ensures rest
+    ∙ ap (onAccepted (addressed (a .first)))
     (sym
-    (names-group-poll (a .kind) (now (a .payload)) (c .before .before .before .before .before .before .if1 .left) (c .before .before .before .before .before .if2 .left) (Of (c .before .before .group .given .0 .0))
-    (sym (c .before .before .group .given .1) ∙ c .before .before .before .before .polled .ensures)))
+    (names-group-poll (a .kind) (now (a .payload)) (c .before .before .before .before .before .before .if1 .left) (c .before .before .before .before .before .if2 .left) _
+    (ap namedOf (sym (c .before .before .group .given .1)) ∙ c .before .before .before .before .polled .ensures)))
 
 returns-4 : tie.Need-returns-4
-returns-4 c =
+returns-4 c rest =
     let a = c .before .before .before .before .before .before .args in
-    ap (onAccepted (heardRequest (a .first)))
+    ap (onAccepted (addressed (a .first)))
     (sym
-    (names-group-poll (a .kind) (now (a .payload)) (c .before .before .before .before .if1 .left) (c .before .before .before .if2 .left) Unknown
-    (sym (c .enum-told .given .1) ∙ c .before .before .polled .ensures)))
+    (names-group-poll (a .kind) (now (a .payload)) (c .before .before .before .before .if1 .left) (c .before .before .before .if2 .left) _
+    (ap namedOf (sym (c .enum-told .given .1)) ∙ c .before .before .polled .ensures)))
 
 pub as-request-spec : {M : Type 1} → statement M
 as-request-spec =

@@ -1,10 +1,8 @@
-use mathlib.Core.Path.{sym, ap, _∙_}
 use denote.Ref.{now}
-use Rattle.answer.specs.Answer.{onAccepted}
-use Rattle.omnistat.specs.declared.request.Request.{Request}
-use Rattle.omnistat.specs.Message.{asRequest}
-use Rattle.omnistat.specs.Answer.{passed, requestOf, heardRequest}
-use Rattle.omnistat.proofs.Laws.Outcome.{checked}
+use Rattle.omnistat.specs.declared.frame.End.the-variants.{Thermostat}
+use Rattle.omnistat.specs.Message.{asMessage}
+use Rattle.omnistat.specs.Answer.{requestIn}
+use Rattle.omnistat.proofs.Laws.Heard.{checked}
 use borrow.Author.Needs.{needs}
 use Rattle.omnistat.proofs.request.check.Statement.{statement}
 use Rattle.omnistat.proofs.request.check.Tie as tie
@@ -27,26 +25,22 @@ enum-told-3 c = search needs
 returns : tie.Need-returns
 returns c =
     let a = c .before .before .before .before .before .args in
-    ap (λ (r : Request). onAccepted passed (requestOf r)) (sym (c .before .r .given .1))
-    ∙ checked (heardRequest 0) (asRequest (a .kind) (now (a .payload))) _ (c .before .before .before .as-request .ensures)
+    checked requestIn (now (a .payload)) _ _ (asMessage Thermostat (a .kind) (now (a .payload))) (c .before .before .before .as-request .ensures) (c .before .r .given .1)
 
 returns-2 : tie.Need-returns-2
 returns-2 c =
     let a = c .before .before .before .before .args in
-    ap (λ (r : Request). onAccepted passed (requestOf r)) (sym (c .enum-told .given .1))
-    ∙ checked (heardRequest 0) (asRequest (a .kind) (now (a .payload))) _ (c .before .before .as-request .ensures)
+    checked requestIn (now (a .payload)) _ _ (asMessage Thermostat (a .kind) (now (a .payload))) (c .before .before .as-request .ensures) (c .enum-told .given .1)
 
 returns-3 : tie.Need-returns-3
 returns-3 c =
     let a = c .before .before .before .before .args in
-    ap (λ (r : Request). onAccepted passed (requestOf r)) (sym (c .enum-told2 .given .1))
-    ∙ checked (heardRequest 0) (asRequest (a .kind) (now (a .payload))) _ (c .before .before .as-request .ensures)
+    checked requestIn (now (a .payload)) _ _ (asMessage Thermostat (a .kind) (now (a .payload))) (c .before .before .as-request .ensures) (c .enum-told2 .given .1)
 
 returns-4 : tie.Need-returns-4
 returns-4 c =
     let a = c .before .before .before .before .args in
-    ap (λ (r : Request). onAccepted passed (requestOf r)) (sym (c .enum-told3 .given .1))
-    ∙ checked (heardRequest 0) (asRequest (a .kind) (now (a .payload))) _ (c .before .before .as-request .ensures)
+    checked requestIn (now (a .payload)) _ _ (asMessage Thermostat (a .kind) (now (a .payload))) (c .before .before .as-request .ensures) (c .enum-told3 .given .1)
 
 pub check-spec : {M : Type 1} → statement M
 check-spec =

@@ -5,10 +5,12 @@ use lib.ListN.{take, drop}
 use denote.Ref.{now}
 use Rattle.answer.specs.Answer.{onAccepted, numberOf}
 use Rattle.omnistat.specs.declared.frame.End.the-variants.{Thermostat}
-use Rattle.omnistat.specs.Frame.{Frame}
-use Rattle.omnistat.specs.Message.{asRequest}
-use Rattle.omnistat.specs.Answer.{framedIn, onMessage, countedRequest, heardRequest}
-use Rattle.omnistat.proofs.Laws.Omnistat.{read-refused, request-heard}
+use Rattle.omnistat.specs.Frame.{Frame, addressOf}
+use Rattle.omnistat.specs.Message.{asMessage}
+use Rattle.omnistat.specs.Omnistat.{addressed}
+use Rattle.omnistat.specs.Parts.{framedIn}
+use Rattle.omnistat.proofs.Laws.Omnistat.{read-refused, read-whole}
+use Rattle.omnistat.proofs.Laws.Heard.{request-in}
 use borrow.Author.Needs.{needs}
 use Rattle.omnistat.proofs.request.read.Statement.{statement}
 use Rattle.omnistat.proofs.request.read.Tie as tie
@@ -35,18 +37,17 @@ returns : tie.Need-returns
 returns c =
     let s = now (c .before .before .before .before .before .args .bytes) in
     sym
-    (ap (onAccepted (onMessage countedRequest))
     (read-refused Thermostat s (numberOf (c .before .r .given .0 .0))
-    (ap (framedIn s) (sym (c .before .r .given .1)) ∙ c .before .before .before .read .ensures)))
+    (ap (framedIn s) (sym (c .before .r .given .1)) ∙ c .before .before .before .read .ensures))
 
 returns-2 : tie.Need-returns-2
 returns-2 c =
     let s = now (c .before .before .before .before .before .before .before .args .bytes) in
     let w = c .before .before .before .first .given in
     let f : Frame = record { first = w .0 .0; kind = w .0 .1 .0; payload = take (w .0 .1 .1 .0) (drop 2 s) } in
-    c .as-request .ensures
-    ∙ ap (λ (d : List ℕ). onAccepted (heardRequest (f .first)) (asRequest (f .kind) d)) (c .before .part .ensures)
-    ∙ sym (request-heard s f (ap (framedIn s) (sym (w .1)) ∙ c .before .before .before .before .before .read .ensures))
+    request-in s _ (w .0 .1 .1 .0) (c .before .part .ensures) (c .as-request .result) _ (c .as-request .ensures)
+    ∙ ap (λ (d : List ℕ). onAccepted (addressed (addressOf Thermostat (f .first))) (asMessage Thermostat (f .kind) d)) (c .before .part .ensures)
+    ∙ sym (read-whole Thermostat s f (ap (framedIn s) (sym (w .1)) ∙ c .before .before .before .before .before .read .ensures))
 
 pub read-spec : {M : Type 1} → statement M
 read-spec =

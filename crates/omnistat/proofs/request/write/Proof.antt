@@ -3,8 +3,9 @@ use borrow.Author.Tests.{not-true, not-false}
 use denote.Ref.{now}
 use Rattle.answer.specs.Answer.{accepted, onAccepted, numberOf}
 use Rattle.omnistat.specs.declared.frame.End.the-variants.{Thermostat}
-use Rattle.omnistat.specs.Omnistat.{asMessage, writeBytes}
-use Rattle.omnistat.specs.Answer.{passed, checkOf}
+use Rattle.omnistat.specs.Message.{asMessage}
+use Rattle.omnistat.specs.Omnistat.{writeBytes}
+use Rattle.omnistat.specs.Parts.{passed, checkOf}
 use Rattle.omnistat.proofs.Laws.Omnistat.{write-refused, frame-fits, write-misaddressed, write-framed}
 use Rattle.omnistat.proofs.Laws.Output.{leaves-refused, leaves-same}
 use borrow.Author.Needs.{needs}

@@ -1,15 +1,15 @@
-use Prim.Native.Nat.{ℕ, _+_, _-_, _<_, _≤_, zero-le}
+use Prim.Native.Nat.{_+_, _-_, _≤_, zero-le}
 use borrow.Author.Needs.{needs}
 use borrow.Author.Tests.{not-true, not-false}
-use lib.ListN.{length, getD, take, drop, set}
-use mathlib.Core.Path.{_≡_, refl, sym, ap, _∙_}
+use mathlib.Core.Path.{_≡_, sym, _∙_}
 use native.Mathlib.Omega.{arith}
 use Rattle.thermostat.proofs.Laws.Map.{listed-begun, listed-next, listed-ended, one-fails, one-holds}
 use Rattle.thermostat.proofs.Laws.Rules.{states}
 use Rattle.thermostat.proofs.registers.are_listed.Statement.{statement}
 use Rattle.thermostat.proofs.registers.are_listed.Tie as tie
 use Rattle.thermostat.specs.Map.{run}
-use Rattle.thermostat.specs.Registers.{listed, listedFlag, States}
+use Rattle.thermostat.specs.Registers.{listed}
+use Rattle.thermostat.specs.Parts.{listedFlag, States}
 use Rattle.thermostat.specs.Step.{allListed}
 
 abbrev Inv-loop : tie.InvT-loop

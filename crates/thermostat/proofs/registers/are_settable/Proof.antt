@@ -1,14 +1,15 @@
-use Prim.Native.Nat.{ℕ, _+_, _-_, _<_, _≤_, zero-le}
+use Prim.Native.Nat.{_+_, _-_, _≤_, zero-le}
 use borrow.Author.Needs.{needs}
 use borrow.Author.Tests.{not-true, not-false}
-use lib.ListN.{length, getD, take, drop, set}
-use mathlib.Core.Path.{_≡_, refl, sym, ap, _∙_}
+use lib.ListN.{length, getD, drop}
+use mathlib.Core.Path.{_≡_, sym, _∙_}
 use native.Mathlib.Omega.{arith}
 use Rattle.thermostat.proofs.Laws.Map.{settable-begun, settable-next, settable-ended, one-fails, one-holds}
 use Rattle.thermostat.proofs.Laws.Rules.{states}
 use Rattle.thermostat.proofs.registers.are_settable.Statement.{statement}
 use Rattle.thermostat.proofs.registers.are_settable.Tie as tie
-use Rattle.thermostat.specs.Registers.{listed, readOnly, allowed, settable, writableFlag, lowOf, highOf, States}
+use Rattle.thermostat.specs.Registers.{listed, readOnly, allowed, settable}
+use Rattle.thermostat.specs.Parts.{writableFlag, lowOf, highOf, States}
 use Rattle.thermostat.specs.Step.{allSettable}
 
 abbrev Inv-loop : tie.InvT-loop

@@ -1,12 +1,12 @@
 use Prim.Native.Nat.{ℕ, _<_, _≤_}
 use borrow.Author.Needs.{needs}
 use lib.Dec.{leb}
-use mathlib.Core.Path.{_≡_, sym, ap, _∙_}
+use mathlib.Core.Path.{sym, ap, _∙_}
 use native.Mathlib.Omega.{arith}
 use Rattle.thermostat.proofs.Laws.Rules.{too-low, low-enough}
 use Rattle.thermostat.proofs.registers.is_taken.Statement.{statement}
 use Rattle.thermostat.proofs.registers.is_taken.Tie as tie
-use Rattle.thermostat.specs.Registers.{takes, lowOf, highOf}
+use Rattle.thermostat.specs.Parts.{takes, lowOf}
 
 is-price-level-requires : tie.Need-is-price-level-requires
 is-price-level-requires c κs = search needs

@@ -1,11 +1,6 @@
 use borrow.Author.Needs.{needs}
-use lib.ListN.{length}
-use mathlib.Core.Bool.{cond}
-use native.Mathlib.Omega.{arith}
 use Rattle.omnistat.specs.Message.{acknowledge, negative}
-use Rattle.omnistat.specs.Omnistat.{write}
-use Rattle.omnistat.specs.declared.frame.End.the-variants.{Host}
-use Rattle.thermostat.proofs.Laws.Step.{chosen, not-chosen, acknowledged, refused-politely, counted, left-behind}
+use Rattle.thermostat.proofs.Laws.Step.{chosen, not-chosen, acknowledge-made, negative-made, replied}
 use Rattle.thermostat.proofs.step.confirm.Statement.{statement}
 use Rattle.thermostat.proofs.step.confirm.Tie as tie
 
@@ -18,14 +13,9 @@ same-length c = search needs
 returns : tie.Need-returns
 returns c =
     let start = c .before .before .before .before .before .before in
-    let own = start .args .own in
-    let old = start .args .out .now in
-    let call = c .before .before .write-acknowledge in
-    let k = chosen (start .args .taken) acknowledge negative (c .before .before .before .before .if1 .taken) in
-    let e = acknowledged own (start .pre .0 .0) (start .pre .0 .1) in (
-      counted own (length old) (cond (start .args .taken) acknowledge negative) acknowledge k (write Host own acknowledge) e (omega arith) (start .pre .1) _ (call .ensures .0),
-      left-behind own (length old) (cond (start .args .taken) acknowledge negative) acknowledge k (write Host own acknowledge) e (omega arith) (start .pre .1) old _ (call .ensures .1),
-    )
+    let a = start .args in
+    let k = chosen (a .taken) acknowledge negative (c .before .before .before .before .if1 .taken) in
+    replied (a .own) (start .pre .0 .0) (start .pre .0 .1) (a .out .now) (start .pre .1) _ acknowledge k acknowledge-made _ _ (c .before .before .write-acknowledge .ensures)
 
 write-negative-requires : tie.Need-write-negative-requires
 write-negative-requires c κs = search needs
@@ -36,14 +26,9 @@ same-length-2 c = search needs
 returns-2 : tie.Need-returns-2
 returns-2 c =
     let start = c .before .before .before .before .before .before in
-    let own = start .args .own in
-    let old = start .args .out .now in
-    let call = c .before .before .write-negative in
-    let k = not-chosen (start .args .taken) acknowledge negative (c .before .before .before .before .if1 .left) in
-    let e = refused-politely own (start .pre .0 .0) (start .pre .0 .1) in (
-      counted own (length old) (cond (start .args .taken) acknowledge negative) negative k (write Host own negative) e (omega arith) (start .pre .1) _ (call .ensures .0),
-      left-behind own (length old) (cond (start .args .taken) acknowledge negative) negative k (write Host own negative) e (omega arith) (start .pre .1) old _ (call .ensures .1),
-    )
+    let a = start .args in
+    let k = not-chosen (a .taken) acknowledge negative (c .before .before .before .before .if1 .left) in
+    replied (a .own) (start .pre .0 .0) (start .pre .0 .1) (a .out .now) (start .pre .1) _ negative k negative-made _ _ (c .before .before .write-negative .ensures)
 
 pub confirm-spec : {M : Type 1} → statement M
 confirm-spec =

@@ -1,17 +1,12 @@
-use Prim.Native.Nat.{ℕ, _+_, _-_, _≤_}
+use Prim.Native.Nat.{_+_, _-_, _≤_}
 use borrow.Author.Needs.{needs}
 use borrow.Author.Tests.{not-true, not-false}
-use lib.ListN.{length, take, drop}
-use mathlib.Core.List.{List, _∷_}
-use mathlib.Core.Path.{_≡_, sym, _∙_}
-use native.Mathlib.Omega.{arith}
-use Rattle.omnistat.specs.Message.{poll, negative, dataFrom}
-use Rattle.omnistat.specs.Omnistat.{write}
-use Rattle.omnistat.specs.declared.frame.End.the-variants.{Host}
-use Rattle.thermostat.proofs.Laws.Step.{run-end, not-reported, reported, part-sent, part-length, refused-politely, counted, left-behind}
+use lib.ListN.{take, drop}
+use mathlib.Core.Path.{sym, _∙_}
+use Rattle.omnistat.specs.Message.{negative, dataFrom}
+use Rattle.thermostat.proofs.Laws.Step.{run-end, not-reported, reported, part-made, negative-made, replied}
 use Rattle.thermostat.proofs.step.report.Statement.{statement}
 use Rattle.thermostat.proofs.step.report.Tie as tie
-use Rattle.thermostat.specs.Step.{replyTo}
 
 add-past : tie.Need-add-past
 add-past c = search needs
@@ -29,21 +24,12 @@ same-length c = search needs
 
 returns : tie.Need-returns
 returns c =
-    let start = c .before .before .before .before .before .before .before .before in
+    let test = c .before .before .before .before in
+    let start = test .before .before .before .before in
     let a = start .args in
-    let own = a .own in
-    let m = a .map .now in
-    let old = a .out .now in
-    let q = replyTo m (poll (a .start) (a .count)) in
-    let call = c .before .before .write-negative in
-    let s = start .pre .1 .1 .0 in
-    let r = start .pre .1 .1 .1 .1 in
-    let d = sym (c .before .before .before .before .before .are-listed .ensures) ∙ not-true (c .before .before .before .before .before .are-listed .result) (c .before .before .before .before .if1 .taken) in
-    let k = not-reported m (a .start) (a .count) s r d in
-    let e = refused-politely own (start .pre .0 .0) (start .pre .0 .1) in (
-      counted own (length old) q negative k (write Host own negative) e (omega arith) (start .pre .1 .0) _ (call .ensures .0),
-      left-behind own (length old) q negative k (write Host own negative) e (omega arith) (start .pre .1 .0) old _ (call .ensures .1),
-    )
+    let d = sym (test .before .are-listed .ensures) ∙ not-true _ (test .if1 .taken) in
+    let k = not-reported (a .map .now) (a .start) (a .count) (start .pre .1 .1 .0) (start .pre .1 .1 .1 .1) d in
+    replied (a .own) (start .pre .0 .0) (start .pre .0 .1) (a .out .now) (start .pre .1 .0) _ negative k negative-made _ _ (c .before .before .write-negative .ensures)
 
 sub-write-data : tie.Need-sub-write-data
 sub-write-data c = search needs
@@ -65,23 +51,16 @@ same-length-2 c = search needs
 
 returns-2 : tie.Need-returns-2
 returns-2 c =
-    let start = c .before .before .before .before .before .before .before .before .before in
+    let test = c .before .before .before .before .before in
+    let start = test .before .before .before .before in
     let a = start .args in
-    let own = a .own in
     let m = a .map .now in
-    let old = a .out .now in
-    let q = replyTo m (poll (a .start) (a .count)) in
-    let call = c .before .before .write-data in
-    let s = start .pre .1 .1 .0 in
-    let r = start .pre .1 .1 .1 .1 in
-    let d = sym (c .before .before .before .before .before .before .are-listed .ensures) ∙ not-false (c .before .before .before .before .before .before .are-listed .result) (c .before .before .before .before .before .if1 .left) in
+    let p = start .pre .1 .1 in
+    let d = sym (test .before .are-listed .ensures) ∙ not-false _ (test .if1 .left) in
     let v = take (a .start + a .count - a .start) (drop (a .start) m) in
-    let k = reported m (a .start) (a .count) s r d in
-    let e = part-sent m (a .start) (a .count) s r own (start .pre .0 .0) (start .pre .0 .1) (start .pre .1 .1 .1 .0 .0) (start .pre .1 .1 .1 .0 .1) in
-    let n : length (a .start ∷ v) ≤ 15 = omega (arith, part-length m (a .start) (a .count) s r, start .pre .1 .1 .1 .0 .1) in (
-      counted own (length old) q (dataFrom (a .start) v) k (write Host own (dataFrom (a .start) v)) e n (start .pre .1 .0) _ (call .ensures .0),
-      left-behind own (length old) q (dataFrom (a .start) v) k (write Host own (dataFrom (a .start) v)) e n (start .pre .1 .0) old _ (call .ensures .1),
-    )
+    replied (a .own) (start .pre .0 .0) (start .pre .0 .1) (a .out .now) (start .pre .1 .0) _ (dataFrom (a .start) v)
+    (reported m (a .start) (a .count) (p .0) (p .1 .1) d) (part-made m (a .start) (a .count) (p .0) (p .1 .1) (p .1 .0 .0) (p .1 .0 .1)) _ _
+    (c .before .before .write-data .ensures)
 
 pub report-spec : {M : Type 1} → statement M
 report-spec =

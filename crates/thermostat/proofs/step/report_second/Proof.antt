@@ -1,12 +1,8 @@
 use borrow.Author.Needs.{needs}
-use lib.ListN.{length}
 use mathlib.Core.Path.{refl}
-use native.Mathlib.Omega.{arith}
 use Rattle.omnistat.specs.Message.{group}
-use Rattle.omnistat.specs.Omnistat.{write}
-use Rattle.omnistat.specs.declared.frame.End.the-variants.{Host}
 use Rattle.omnistat.specs.declared.group.Group.the-variants.{Second}
-use Rattle.thermostat.proofs.Laws.Step.{second-sent, counted, left-behind}
+use Rattle.thermostat.proofs.Laws.Step.{group-made, replied}
 use Rattle.thermostat.proofs.step.report_second.Statement.{statement}
 use Rattle.thermostat.proofs.step.report_second.Tie as tie
 use Rattle.thermostat.specs.Map.{content, contents}
@@ -43,15 +39,9 @@ returns : tie.Need-returns
 unfolding content
 returns c =
     let start = c .before .before .before .before .before .before .before .before .before .before .before .before .before in
-    let own = start .args .own in
-    let m = start .args .map .now in
-    let old = start .args .out .now in
-    let q = group Second (contents m (registersOf Second)) in
-    let call = c .before .before .write-group in
-    let e = second-sent own (start .pre .0 .0) (start .pre .0 .1) m in (
-      counted own (length old) q q refl (write Host own q) e (omega arith) (start .pre .1 .0) _ (call .ensures .0),
-      left-behind own (length old) q q refl (write Host own q) e (omega arith) (start .pre .1 .0) old _ (call .ensures .1),
-    )
+    let a = start .args in
+    let q = group Second (contents (a .map .now) (registersOf Second)) in
+    replied (a .own) (start .pre .0 .0) (start .pre .0 .1) (a .out .now) (start .pre .1 .0) q q refl (group-made (a .map .now) Second) _ _ (c .before .before .write-group .ensures)
 
 pub report-second-spec : {M : Type 1} → statement M
 report-second-spec =

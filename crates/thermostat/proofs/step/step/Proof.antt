@@ -4,16 +4,12 @@ use lib.ListN.{length}
 use mathlib.Core.List.{List}
 use mathlib.Core.Path.{refl, sym, ap, _∙_}
 use Rattle.answer.specs.Answer.{accepted, numberOf}
-use Rattle.omnistat.proofs.Laws.Heard.{request-read}
-use Rattle.omnistat.proofs.Laws.Outcome.{still-refused}
-use Rattle.omnistat.specs.Answer.{requestOf, onMessage, countedRequest}
+use Rattle.omnistat.specs.Answer.{requestIn}
 use Rattle.omnistat.specs.Message.{poll, setFrom, pollGroup}
 use Rattle.omnistat.specs.Omnistat.{addressed, read}
-use Rattle.omnistat.specs.declared.frame.End.the-variants.{Thermostat}
 use Rattle.thermostat.proofs.Laws.Step.{too-little-room, wrong-map, address-too-low, address-too-high, reader-refuses, stepped, when-refused, when-done, only-sets, poll-read, set-read}
 use Rattle.thermostat.proofs.step.step.Statement.{statement}
 use Rattle.thermostat.proofs.step.step.Tie as tie
-use Rattle.thermostat.specs.Step.{step}
 
 returns : tie.Need-returns
 returns c =
@@ -21,8 +17,7 @@ returns c =
     let m = a .map .now in
     let s = a .bytes .now in
     let old = a .out .now in
-    let o = step (a .own) m s (length old) in
-    when-refused o 9 m old (too-little-room (a .own) m s (length old) (c .if1 .taken))
+    when-refused (a .own) m s old 9 (too-little-room (a .own) m s (length old) (c .if1 .taken))
 
 returns-2 : tie.Need-returns-2
 returns-2 c =
@@ -30,8 +25,7 @@ returns-2 c =
     let m = a .map .now in
     let s = a .bytes .now in
     let old = a .out .now in
-    let o = step (a .own) m s (length old) in
-    when-refused o 9 m old (wrong-map (a .own) m s (length old) (c .before .if1 .left) (c .if2 .taken))
+    when-refused (a .own) m s old 9 (wrong-map (a .own) m s (length old) (c .before .if1 .left) (c .if2 .taken))
 
 returns-3 : tie.Need-returns-3
 returns-3 c =
@@ -39,8 +33,7 @@ returns-3 c =
     let m = a .map .now in
     let s = a .bytes .now in
     let old = a .out .now in
-    let o = step (a .own) m s (length old) in
-    when-refused o 8 m old (address-too-low (a .own) m s (length old) (c .before .before .if1 .left) (c .before .if2 .left) (c .if3 .taken))
+    when-refused (a .own) m s old 8 (address-too-low (a .own) m s (length old) (c .before .before .if1 .left) (c .before .if2 .left) (c .if3 .taken))
 
 returns-4 : tie.Need-returns-4
 returns-4 c =
@@ -48,8 +41,7 @@ returns-4 c =
     let m = a .map .now in
     let s = a .bytes .now in
     let old = a .out .now in
-    let o = step (a .own) m s (length old) in
-    when-refused o 8 m old (address-too-high (a .own) m s (length old) (c .before .before .before .if1 .left) (c .before .before .if2 .left) (c .if4 .taken))
+    when-refused (a .own) m s old 8 (address-too-high (a .own) m s (length old) (c .before .before .before .if1 .left) (c .before .before .if2 .left) (c .if4 .taken))
 
 read-requires : tie.Need-read-requires
 read-requires c κs = search needs
@@ -67,8 +59,8 @@ on-poll-requires c κs =
     let first = given .0 .0 in
     let start = given .0 .1 .0 in
     let count = given .0 .1 .1 .0 in
-    let e = sym (ap requestOf (given .1)) ∙ c .before .before .before .before .before .read .ensures in
-    let p = poll-read s first start count (request-read s first (poll start count) e) in
+    let e = sym (c .before .before .before .before .before .read .ensures) ∙ ap (requestIn s) (given .1) in
+    let p = poll-read s first start count e in
     ((c .before .before .before .before .before .before .before .if3 .left, c .before .before .before .before .before .before .if4 .left), (c .before .before .before .before .before .before .before .before .before .if1 .left, (c .before .before .before .before .before .before .before .before .if2 .left, p)))
 
 enum-known-first-2 : tie.Need-enum-known-first-2
@@ -84,10 +76,10 @@ on-set-requires c κs =
     let first = given .0 .0 in
     let start = given .0 .1 .0 in
     let count = given .0 .1 .1 .0 in
-    let e = sym (ap requestOf (given .1)) ∙ c .before .before .before .before .before .before .read .ensures in
+    let e = sym (c .before .before .before .before .before .before .read .ensures) ∙ ap (requestIn s) (given .1) in
     let v = c .before .values .result .now in
     let r =
-    request-read s first (setFrom start count) e
+    e
     ∙ ap (λ (x : List ℕ). accepted (addressed first (setFrom start x))) (sym (c .before .values .ensures)) in
     ((c .before .before .before .before .before .before .before .before .if3 .left, c .before .before .before .before .before .before .before .if4 .left), (c .before .before .before .before .before .before .before .before .before .before .if1 .left, (c .before .before .before .before .before .before .before .before .before .if2 .left, set-read s first start v r)))
 
@@ -103,12 +95,10 @@ returns-5 c =
     let m = a .map .now in
     let s = a .bytes .now in
     let old = a .out .now in
-    let o = step (a .own) m s (length old) in
     let n = numberOf (c .before .r .given .0 .0) in
-    let e = sym (c .before .before .before .read .ensures) ∙ ap requestOf (c .before .r .given .1) in
-    when-refused o n m old
-    (reader-refuses (a .own) m s (length old) (c .before .before .before .before .before .before .before .if1 .left) (c .before .before .before .before .before .before .if2 .left) (c .before .before .before .before .before .if3 .left) (c .before .before .before .before .if4 .left) n
-    (still-refused (onMessage countedRequest) (read Thermostat s) n e))
+    let e = sym (c .before .before .before .read .ensures) ∙ ap (requestIn s) (c .before .r .given .1) in
+    when-refused (a .own) m s old n
+    (reader-refuses (a .own) m s (length old) (c .before .before .before .before .before .before .before .if1 .left) (c .before .before .before .before .before .before .if2 .left) (c .before .before .before .before .before .if3 .left) (c .before .before .before .before .if4 .left) n e)
 
 same-length : tie.Need-same-length
 same-length c = search needs
@@ -122,17 +112,16 @@ returns-6 c =
     let m = a .map .now in
     let s = a .bytes .now in
     let old = a .out .now in
-    let o = step (a .own) m s (length old) in
     let given = c .before .before .before .before .before .before .first .given in
     let first = given .0 .0 in
     let start = given .0 .1 .0 in
     let count = given .0 .1 .1 .0 in
-    let e = sym (ap requestOf (given .1)) ∙ c .before .before .before .before .before .before .before .before .read .ensures in
+    let e = sym (c .before .before .before .before .before .before .before .before .read .ensures) ∙ ap (requestIn s) (given .1) in
     let q = addressed first (poll start count) in
     let call = c .before .before .on-poll in
-    when-done o (a .own) q _ m m old _
-    (stepped (a .own) m s (length old) (c .before .before .before .before .before .before .before .before .before .before .before .before .if1 .left) (c .before .before .before .before .before .before .before .before .before .before .before .if2 .left) (c .before .before .before .before .before .before .before .before .before .before .if3 .left) (c .before .before .before .before .before .before .before .before .before .if4 .left) q (request-read s first (poll start count) e))
-    (call .ensures .0) (only-sets (a .own) m first (poll start count) refl) (call .ensures .1)
+    when-done (a .own) m s old q _ m _
+    (stepped (a .own) m s (length old) (c .before .before .before .before .before .before .before .before .before .before .before .before .if1 .left) (c .before .before .before .before .before .before .before .before .before .before .before .if2 .left) (c .before .before .before .before .before .before .before .before .before .before .if3 .left) (c .before .before .before .before .before .before .before .before .before .if4 .left) q e)
+    (only-sets (a .own) m first (poll start count) refl) (call .ensures)
 
 same-length-3 : tie.Need-same-length-3
 same-length-3 c = search needs
@@ -146,21 +135,20 @@ returns-7 c =
     let m = a .map .now in
     let s = a .bytes .now in
     let old = a .out .now in
-    let o = step (a .own) m s (length old) in
     let given = c .before .before .before .before .before .before .before .before .before .first2 .given in
     let first = given .0 .0 in
     let start = given .0 .1 .0 in
     let count = given .0 .1 .1 .0 in
-    let e = sym (ap requestOf (given .1)) ∙ c .before .before .before .before .before .before .before .before .before .before .before .read .ensures in
+    let e = sym (c .before .before .before .before .before .before .before .before .before .before .before .read .ensures) ∙ ap (requestIn s) (given .1) in
     let v = c .before .before .before .before .before .before .values .result .now in
     let q = addressed first (setFrom start v) in
     let r =
-    request-read s first (setFrom start count) e
+    e
     ∙ ap (λ (x : List ℕ). accepted (addressed first (setFrom start x))) (sym (c .before .before .before .before .before .before .values .ensures)) in
     let call = c .before .before .before .before .on-set in
-    when-done o (a .own) q _ m _ old _
+    when-done (a .own) m s old q _ _ _
     (stepped (a .own) m s (length old) (c .before .before .before .before .before .before .before .before .before .before .before .before .before .before .before .if1 .left) (c .before .before .before .before .before .before .before .before .before .before .before .before .before .before .if2 .left) (c .before .before .before .before .before .before .before .before .before .before .before .before .before .if3 .left) (c .before .before .before .before .before .before .before .before .before .before .before .before .if4 .left) q r)
-    (call .ensures .0) (call .ensures .1 .0) (call .ensures .1 .1)
+    (call .ensures .1 .0) (call .ensures .0, call .ensures .1 .1)
 
 same-length-5 : tie.Need-same-length-5
 same-length-5 c = search needs
@@ -174,16 +162,15 @@ returns-8 c =
     let m = a .map .now in
     let s = a .bytes .now in
     let old = a .out .now in
-    let o = step (a .own) m s (length old) in
     let given = c .before .before .before .before .before .before .first3 .given in
     let first = given .0 .0 in
     let g = given .0 .1 .0 in
-    let e = sym (ap requestOf (given .1)) ∙ c .before .before .before .before .before .before .before .before .read .ensures in
+    let e = sym (c .before .before .before .before .before .before .before .before .read .ensures) ∙ ap (requestIn s) (given .1) in
     let q = addressed first (pollGroup g) in
     let call = c .before .before .on-group in
-    when-done o (a .own) q _ m m old _
-    (stepped (a .own) m s (length old) (c .before .before .before .before .before .before .before .before .before .before .before .before .if1 .left) (c .before .before .before .before .before .before .before .before .before .before .before .if2 .left) (c .before .before .before .before .before .before .before .before .before .before .if3 .left) (c .before .before .before .before .before .before .before .before .before .if4 .left) q (request-read s first (pollGroup g) e))
-    (call .ensures .0) (only-sets (a .own) m first (pollGroup g) refl) (call .ensures .1)
+    when-done (a .own) m s old q _ m _
+    (stepped (a .own) m s (length old) (c .before .before .before .before .before .before .before .before .before .before .before .before .if1 .left) (c .before .before .before .before .before .before .before .before .before .before .before .if2 .left) (c .before .before .before .before .before .before .before .before .before .before .if3 .left) (c .before .before .before .before .before .before .before .before .before .if4 .left) q e)
+    (only-sets (a .own) m first (pollGroup g) refl) (call .ensures)
 
 pub step-spec : {M : Type 1} → statement M
 step-spec =

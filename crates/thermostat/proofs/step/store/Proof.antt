@@ -1,8 +1,8 @@
-use Prim.Native.Nat.{ℕ, _+_, _-_, _<_, _≤_, zero-le}
+use Prim.Native.Nat.{_+_, _-_, _≤_, zero-le}
 use borrow.Author.Needs.{needs}
-use lib.ListN.{length, getD, take, drop, set}
+use lib.ListN.{length, getD, drop}
 use lib.ListN.{length-set}
-use mathlib.Core.Path.{_≡_, refl, sym, ap, _∙_}
+use mathlib.Core.Path.{_≡_, refl, sym, _∙_}
 use native.Mathlib.Omega.{arith}
 use Rattle.thermostat.proofs.Laws.Map.{stored-begun, stored-next, stored-ended}
 use Rattle.thermostat.proofs.step.store.Statement.{statement}

@@ -6,7 +6,7 @@ use lib.Dec.{T}
 use lib.Ieee.{Float, fin, ofBits, neg, ofFields, odd, eq, lt}
 use lib.IntN.{pos}
 use mathlib.Core.Bool.{true, false}
-use mathlib.Core.Path.{_≡_, sym, ap, _∙_, subst}
+use mathlib.Core.Path.{sym, ap, _∙_, subst}
 use native.Mathlib.Omega.{arith}
 use Rattle.thermostat.proofs.Laws.Temperature.{counted, one-byte, no-byte, the-byte, under-most, above-least, clash}
 use Rattle.thermostat.proofs.temperature.to_byte.Statement.{statement}

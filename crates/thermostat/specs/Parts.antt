@@ -1,0 +1,41 @@
+-- What the functions behind the step promise one another.
+use Prim.Native.Nat.{ℕ, _<_}
+use mathlib.Core.Path.{_≡_}
+use mathlib.Core.Bool.{Bool, true, false, not, _&&_}
+use mathlib.Core.List.{List, [], _∷_}
+use lib.ListN.{getD}
+use Rattle.thermostat.specs.Registers.{Range, inAny, listed, readOnly, allowed}
+
+-- a register takes a byte
+abbrev pub takes : ℕ → ℕ → Bool
+takes r v = inAny (allowed r) v
+
+-- what is stated of each register number, as a byte: 1 for yes; the least and the greatest byte that it takes
+abbrev pub flag : Bool → ℕ
+flag true = 1
+flag false = 0
+
+abbrev pub lowest : List Range → ℕ
+lowest [] = 0
+lowest (r ∷ rs) = r .low
+
+abbrev pub highest : List Range → ℕ
+highest [] = 0
+highest (r ∷ []) = r .high
+highest (r ∷ s ∷ rs) = highest (s ∷ rs)
+
+abbrev pub listedFlag : ℕ → ℕ
+listedFlag r = flag (listed r)
+
+abbrev pub writableFlag : ℕ → ℕ
+writableFlag r = flag (listed r && not (readOnly r))
+
+abbrev pub lowOf : ℕ → ℕ
+lowOf r = lowest (allowed r)
+
+abbrev pub highOf : ℕ → ℕ
+highOf r = highest (allowed r)
+
+-- 256 bytes that say this of every register number
+pub record States (f : ℕ → ℕ) (bytes : List ℕ) : Type 0 where
+  pub entry : (r : ℕ) → r < 256 → getD bytes r 0 ≡ f r
