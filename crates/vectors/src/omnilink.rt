@@ -2,10 +2,13 @@
 use crate::output;
 use crate::output::Form;
 use crate::output::number;
+use crate::output::refused;
 use crate::output::small;
 use crate::output::text;
+use crate::output::word;
 use link::frame::FrameRead;
 use message::command::Command;
+use message::command::CommandRead;
 use message::command::Duration;
 use message::item::TextRead;
 use message::item::WordRead;
@@ -13,7 +16,8 @@ use message::item::ZoneRead;
 use message::items::Arming;
 use message::items::Condition;
 use message::items::LatchedAlarm;
-use message::log::LogEntry;
+use message::items::TextMessage;
+use message::items::Zone;
 use message::message::Fixed;
 use message::message::Message;
 use message::message::MessageRead;
@@ -37,9 +41,7 @@ pub(crate) fn read_frame(bytes: &[u8]) {
             output::hex(kind);
             data(link::frame::data(bytes, count));
         }
-        FrameRead::Refused(r) => {
-            output::refused(r);
-        }
+        FrameRead::Refused(r) => refused(r),
     }
 }
 
@@ -63,67 +65,224 @@ pub(crate) fn write_message(bytes: &[u8]) {
     output::written(w, Form::Hex, &out);
 }
 
-fn unacknowledged(trouble: bool) {
-    if trouble {
+// A message as it is printed: which of the names below, its numbers, and the count of its items.
+struct Summary {
+    name: u8,
+    numbers: u8,
+    first: u8,
+    second: u8,
+    third: u8,
+    fourth: u8,
+    items: u8,
+}
+
+const LOG_ENTRY: u8 = 9;
+
+const COMMAND: u8 = 10;
+
+const ZONES: u8 = 11;
+
+const EVENTS: u8 = 12;
+
+const TEXT_MESSAGES: u8 = 13;
+
+fn names(n: u8) {
+    word(
+        b" acknowledge\n negative acknowledge\n upload event log\n request system information\n request system status\n logout\n request system events\n login\n request zones\n log entry\n\n zones\n events\n text messages\n",
+        n,
+    );
+}
+
+// A message with so many items.
+fn with_items(name: u8, items: u8) -> Summary {
+    Summary {
+        name,
+        numbers: 0,
+        first: 0,
+        second: 0,
+        third: 0,
+        fourth: 0,
+        items,
+    }
+}
+
+fn shown_login(first: u8, second: u8, third: u8, fourth: u8) -> Summary {
+    Summary {
+        name: 7,
+        numbers: 4,
+        first,
+        second,
+        third,
+        fourth,
+        items: 0,
+    }
+}
+
+fn shown_request(first: u8, second: u8) -> Summary {
+    Summary {
+        name: 8,
+        numbers: 2,
+        first,
+        second,
+        third: 0,
+        fourth: 0,
+        items: 0,
+    }
+}
+
+fn shown_fixed(f: Fixed) -> Summary {
+    match f {
+        Fixed::Acknowledge => with_items(0, 0),
+        Fixed::NegativeAcknowledge => with_items(1, 0),
+        Fixed::UploadEventLog => with_items(2, 0),
+        Fixed::RequestSystemInformation => with_items(3, 0),
+        Fixed::RequestSystemStatus => with_items(4, 0),
+        Fixed::Logout => with_items(5, 0),
+        Fixed::RequestSystemEvents => with_items(6, 0),
+        Fixed::Login {
+            first,
+            second,
+            third,
+            fourth,
+        } => shown_login(first, second, third, fourth),
+        Fixed::ZoneRequest { first, last } => shown_request(first, last),
+        Fixed::LogEntry(_) => with_items(LOG_ENTRY, 9),
+        Fixed::Command(_) => with_items(COMMAND, 1),
+    }
+}
+
+fn shown(m: Message) -> Summary {
+    match m {
+        Message::Fixed(f) => shown_fixed(f),
+        Message::ZoneStatus { count } => with_items(ZONES, count),
+        Message::Events { count } => with_items(EVENTS, count),
+        Message::MessageStatus { count } => with_items(TEXT_MESSAGES, count),
+    }
+}
+
+fn two(first: u8, second: u8) {
+    text(b" ");
+    small(first);
+    text(b" ");
+    small(second);
+}
+
+fn show(m: Summary, bytes: &[u8]) {
+    names(m.name);
+    if 0 < m.numbers {
+        two(m.first, m.second);
+    }
+    if 2 < m.numbers {
+        two(m.third, m.fourth);
+    }
+    items(m.name, bytes, m.items as usize);
+}
+
+pub(crate) fn read_message(bytes: &[u8]) {
+    match message::message::read(bytes) {
+        MessageRead::Accepted(m) => show(shown(m), bytes),
+        MessageRead::Refused(r) => refused(r),
+    }
+}
+
+fn item(name: u8, bytes: &[u8], i: usize) {
+    match name {
+        LOG_ENTRY => field(message::item::log_entry(bytes, i)),
+        COMMAND => command(message::item::command(bytes)),
+        ZONES => zone(message::item::zone(bytes, i)),
+        EVENTS => event(message::item::event(bytes, i)),
+        _ => text_message(message::item::text_message(bytes, i)),
+    }
+}
+
+fn items(name: u8, bytes: &[u8], count: usize) {
+    let mut i = 0;
+    while i < count {
+        item(name, bytes, i);
+        i += 1;
+    }
+}
+
+fn condition(c: Condition) -> u8 {
+    match c {
+        Condition::Secure => 0,
+        Condition::NotReady => 1,
+        Condition::Trouble => 2,
+    }
+}
+
+fn latched_alarm(l: LatchedAlarm) -> u8 {
+    match l {
+        LatchedAlarm::Secure => 0,
+        LatchedAlarm::Tripped => 1,
+        LatchedAlarm::Reset => 2,
+    }
+}
+
+fn arming(a: Arming) -> u8 {
+    match a {
+        Arming::Disarmed => 0,
+        Arming::Armed => 1,
+        Arming::BypassedByUser => 2,
+        Arming::BypassedBySystem => 3,
+    }
+}
+
+fn trouble(unacknowledged: bool) {
+    if unacknowledged {
         text(b", unacknowledged trouble");
     }
 }
 
-fn condition(c: Condition) {
-    match c {
-        Condition::Secure => text(b" secure"),
-        Condition::NotReady => text(b" not ready"),
-        Condition::Trouble => text(b" trouble"),
-    }
+fn show_status(c: Condition, l: LatchedAlarm, a: Arming) {
+    word(b"; secure\n; not ready\n; trouble\n", condition(c));
+    word(b", secure\n, tripped\n, reset\n", latched_alarm(l));
+    word(
+        b", disarmed\n, armed\n, bypassed by user\n, bypassed by system\n",
+        arming(a),
+    );
 }
 
-fn latched_alarm(l: LatchedAlarm) {
-    match l {
-        LatchedAlarm::Secure => text(b", secure"),
-        LatchedAlarm::Tripped => text(b", tripped"),
-        LatchedAlarm::Reset => text(b", reset"),
-    }
-}
-
-fn arming(a: Arming) {
-    match a {
-        Arming::Disarmed => text(b", disarmed"),
-        Arming::Armed => text(b", armed"),
-        Arming::BypassedByUser => text(b", bypassed by user"),
-        Arming::BypassedBySystem => text(b", bypassed by system"),
-    }
+fn show_zone(z: Zone) {
+    let c = z.condition;
+    let l = z.latched_alarm;
+    let a = z.arming;
+    show_status(c, l, a);
+    trouble(z.unacknowledged_trouble);
+    text(b", loop ");
+    small(z.loop_reading);
 }
 
 fn zone(r: ZoneRead) {
     match r {
-        ZoneRead::Accepted(z) => {
-            let c = z.condition;
-            condition(c);
-            let l = z.latched_alarm;
-            latched_alarm(l);
-            let a = z.arming;
-            arming(a);
-            unacknowledged(z.unacknowledged_trouble);
-            text(b", loop ");
-            small(z.loop_reading);
-        }
-        ZoneRead::Refused(r) => {
-            output::refused(r);
-        }
+        ZoneRead::Accepted(z) => show_zone(z),
+        ZoneRead::Refused(r) => refused(r),
     }
-    text(b";");
+}
+
+fn show_word(w: u16) {
+    text(b" ");
+    output::hex((w / 256) as u8);
+    output::hex((w % 256) as u8);
 }
 
 fn event(r: WordRead) {
     match r {
-        WordRead::Accepted(w) => {
-            text(b" ");
-            output::hex((w / 256) as u8);
-            output::hex((w % 256) as u8);
-        }
-        WordRead::Refused(r) => {
-            output::refused(r);
-        }
+        WordRead::Accepted(w) => show_word(w),
+        WordRead::Refused(r) => refused(r),
+    }
+}
+
+fn show_number(n: u16) {
+    text(b" ");
+    number(n as u64);
+}
+
+// A field of a log entry.
+fn field(r: WordRead) {
+    match r {
+        WordRead::Accepted(n) => show_number(n),
+        WordRead::Refused(r) => refused(r),
     }
 }
 
@@ -137,159 +296,78 @@ fn mark(holds: bool, letter: &[u8]) {
 }
 
 // A text message: d displayed, n not acknowledged.
+fn show_text_message(t: TextMessage) {
+    text(b" ");
+    mark(t.displayed, b"d");
+    mark(t.not_acknowledged, b"n");
+}
+
 fn text_message(r: TextRead) {
     match r {
-        TextRead::Accepted(t) => {
-            text(b" ");
-            mark(t.displayed, b"d");
-            mark(t.not_acknowledged, b"n");
-        }
-        TextRead::Refused(r) => {
-            output::refused(r);
-        }
+        TextRead::Accepted(t) => show_text_message(t),
+        TextRead::Refused(r) => refused(r),
     }
 }
 
-// The lists that messages carry.
-pub enum List {
-    Zones,
-    Events,
-    TextMessages,
+// A command as it is printed: its name, its second parameter, and a count with its unit, where it has one.
+struct Action {
+    name: u8,
+    of: u16,
+    unit: u8,
+    count: u8,
 }
 
-fn item(list: List, bytes: &[u8], i: usize) {
-    match list {
-        List::Zones => zone(message::item::zone(bytes, i)),
-        List::Events => event(message::item::event(bytes, i)),
-        List::TextMessages => text_message(message::item::text_message(bytes, i)),
+fn ordered(name: u8, of: u16, unit: u8, count: u8) -> Action {
+    Action {
+        name,
+        of,
+        unit,
+        count,
     }
 }
 
-fn items(list: List, bytes: &[u8], count: usize) {
-    let mut i = 0;
-    while i < count {
-        item(list, bytes, i);
-        i += 1;
-    }
-}
-
-fn labelled(words: &[u8], n: u16) {
-    text(words);
-    number(n as u64);
-}
-
-fn lasting(n: u8, words: &[u8]) {
-    labelled(b" for ", n as u16);
-    text(words);
-}
-
-fn duration(d: Duration) {
+fn timed(name: u8, of: u16, d: Duration) -> Action {
     match d {
-        Duration::None => text(b""),
-        Duration::Seconds(n) => lasting(n, b" seconds"),
-        Duration::Minutes(n) => lasting(n, b" minutes"),
-        Duration::Hours(n) => lasting(n, b" hours"),
+        Duration::None => ordered(name, of, 0, 0),
+        Duration::Seconds(n) => ordered(name, of, 1, n),
+        Duration::Minutes(n) => ordered(name, of, 2, n),
+        Duration::Hours(n) => ordered(name, of, 3, n),
     }
 }
 
-// A unit or an area, and what is done to it.
-fn done(place: &[u8], n: u16, what: &[u8]) {
-    labelled(place, n);
-    text(what);
-}
-
-// A command, in document 000's words.
-fn command(c: Command) {
+fn order(c: Command) -> Action {
     match c {
-        Command::Off { duration: d, unit } => {
-            done(b" unit ", unit, b" off");
-            duration(d);
-        }
-        Command::On { duration: d, unit } => {
-            done(b" unit ", unit, b" on");
-            duration(d);
-        }
-        Command::AllOff { area } => done(b" area ", area, b" all off"),
-        Command::AllOn { area } => done(b" area ", area, b" all on"),
-        Command::Level { percent, unit } => {
-            done(b" unit ", unit, b" lighting level to ");
-            done(b"", percent as u16, b" percent");
-        }
-        Command::Decrement { counter } => labelled(b" decrement counter ", counter),
-        Command::Increment { counter } => labelled(b" increment counter ", counter),
-        Command::SetCounter { value, counter } => {
-            labelled(b" set counter ", counter);
-            labelled(b" to ", value as u16);
-        }
+        Command::Off { duration, unit } => timed(0, unit, duration),
+        Command::On { duration, unit } => timed(1, unit, duration),
+        Command::AllOff { area } => ordered(2, area, 0, 0),
+        Command::AllOn { area } => ordered(3, area, 0, 0),
+        Command::Level { percent, unit } => ordered(4, unit, 4, percent),
+        Command::Decrement { counter } => ordered(5, counter, 0, 0),
+        Command::Increment { counter } => ordered(6, counter, 0, 0),
+        Command::SetCounter { value, counter } => ordered(7, counter, 5, value),
     }
 }
 
-fn log_entry(e: LogEntry) {
-    labelled(b" event ", e.number as u16);
-    labelled(b", time valid ", e.time_valid as u16);
-    labelled(b", month ", e.month as u16);
-    labelled(b", day ", e.day as u16);
-    labelled(b", hour ", e.hour as u16);
-    labelled(b", minute ", e.minute as u16);
-    labelled(b", type ", e.event_type as u16);
-    labelled(b", parameters ", e.parameter_1 as u16);
-    labelled(b" ", e.parameter_2);
-}
-
-fn fixed(f: Fixed) {
-    match f {
-        Fixed::Acknowledge => text(b" acknowledge"),
-        Fixed::NegativeAcknowledge => text(b" negative acknowledge"),
-        Fixed::UploadEventLog => text(b" upload event log"),
-        Fixed::RequestSystemInformation => text(b" request system information"),
-        Fixed::RequestSystemStatus => text(b" request system status"),
-        Fixed::Logout => text(b" logout"),
-        Fixed::RequestSystemEvents => text(b" request system events"),
-        Fixed::Login {
-            first,
-            second,
-            third,
-            fourth,
-        } => {
-            text(b" login ");
-            small(first);
-            small(second);
-            small(third);
-            small(fourth);
-        }
-        Fixed::ZoneRequest { first, last } => {
-            labelled(b" request zones ", first as u16);
-            labelled(b" to ", last as u16);
-        }
-        Fixed::LogEntry(e) => log_entry(e),
-        Fixed::Command(c) => command(c),
+fn counted(count: u8, unit: u8) {
+    if 0 < unit {
+        text(b", ");
+        small(count);
+        word(b"\n seconds\n minutes\n hours\n percent\n as value\n", unit);
     }
 }
 
-pub(crate) fn read_message(bytes: &[u8]) {
-    match message::message::read(bytes) {
-        MessageRead::Accepted(m) => shown(m, bytes),
-        MessageRead::Refused(r) => output::refused(r),
-    }
+fn show_order(o: Action) {
+    word(
+        b" off unit\n on unit\n all off area\n all on area\n lighting level unit\n decrement counter\n increment counter\n set counter\n",
+        o.name,
+    );
+    show_number(o.of);
+    counted(o.count, o.unit);
 }
 
-fn shown(m: Message, bytes: &[u8]) {
-    match m {
-        Message::Fixed(f) => fixed(f),
-        Message::ZoneStatus { count } => {
-            labelled(b" zones ", count as u16);
-            text(b":");
-            items(List::Zones, bytes, count as usize);
-        }
-        Message::Events { count } => {
-            labelled(b" events ", count as u16);
-            text(b":");
-            items(List::Events, bytes, count as usize);
-        }
-        Message::MessageStatus { count } => {
-            labelled(b" text messages ", count as u16);
-            text(b":");
-            items(List::TextMessages, bytes, count as usize);
-        }
+fn command(r: CommandRead) {
+    match r {
+        CommandRead::Accepted(c) => show_order(order(c)),
+        CommandRead::Refused(r) => refused(r),
     }
 }

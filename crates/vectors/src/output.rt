@@ -1,7 +1,9 @@
 // Printing answers: words, numbers, bytes and places.
+use crate::input::line_end;
 use answer::Refusal;
 use answer::Written;
-ghost use Prim.Native.Nat.{_<_};
+ghost use Prim.Native.Nat.{_<_, _≤_};
+ghost use lib.ListN.{length};
 
 const STDOUT: i32 = 1;
 
@@ -103,9 +105,37 @@ pub(crate) fn bytes(from: &[u8]) {
     list(Form::Hex, from, from.len());
 }
 
-pub(crate) fn refused(r: Refusal) {
+pub(crate) fn refusal(n: u64) {
     text(b" refused ");
-    number(answer::number(r));
+    number(n);
+}
+
+pub(crate) fn refused(r: Refusal) {
+    refusal(answer::number(r));
+}
+
+// Where word n starts, of words with a line for each; the end where there are not so many.
+fn word_at(words: &[u8], n: u8) -> usize
+    ensures { λ r. ⌜ r ≤ length (now (words .entry)) ⌝ }
+{
+    let mut at = 0;
+    let mut left = n;
+    while left > 0 {
+        let end = line_end(words, at);
+        if end == words.len() {
+            return end;
+        }
+        at = end + 1;
+        left -= 1;
+    }
+    at
+}
+
+// Word n, of words with a line for each.
+pub(crate) fn word(words: &[u8], n: u8) {
+    let at = word_at(words, n);
+    let end = line_end(words, at);
+    text(&words[at..end]);
 }
 
 // What a writer answered and wrote.

@@ -3,29 +3,12 @@ use crate::output;
 use crate::output::Form;
 use crate::output::small;
 use crate::output::text;
+use crate::output::word;
 use answer::Written;
-use x10::Function;
 use x10::Pattern;
 
 // The places of an Extended 1.
 const ROOM: usize = 62;
-
-fn function(f: Function) {
-    match f {
-        Function::AllUnitsOff => text(b" all units off"),
-        Function::AllLightsOn => text(b" all lights on"),
-        Function::On => text(b" on"),
-        Function::Off => text(b" off"),
-        Function::Dim => text(b" dim"),
-        Function::Bright => text(b" bright"),
-        Function::AllLightsOff => text(b" all lights off"),
-        Function::HailRequest => text(b" hail request"),
-        Function::HailAcknowledge => text(b" hail acknowledge"),
-        Function::StatusOn => text(b" status on"),
-        Function::StatusOff => text(b" status off"),
-        Function::StatusRequest => text(b" status request"),
-    }
-}
 
 fn at_house(house: u8) {
     text(b" house ");
@@ -38,26 +21,34 @@ fn at_unit(house: u8, unit: u8) {
     small(unit);
 }
 
+// The function with a code, D8 D4 D2 D1.
+fn function(house: u8, code: u8) {
+    at_house(house);
+    word(
+        b" all units off\n all lights on\n on\n off\n dim\n bright\n all lights off\n\n hail request\n hail acknowledge\n\n\n\n status on\n status off\n status request\n",
+        code,
+    );
+}
+
+fn extended(house: u8, unit: u8, data: u8, command: u8) {
+    at_unit(house, unit);
+    text(b" data ");
+    output::hex(data);
+    text(b" command ");
+    output::hex(command);
+}
+
 pub(crate) fn read(places: &[u8]) {
     match x10::read(places) {
         Pattern::Refused(r) => output::refused(r),
         Pattern::Unit { house, unit } => at_unit(house, unit),
-        Pattern::Function { house, function: f } => {
-            at_house(house);
-            function(f);
-        }
+        Pattern::Function { house, function: f } => function(house, x10::code_of(f)),
         Pattern::Extended {
             house,
             unit,
             data,
             command,
-        } => {
-            at_unit(house, unit);
-            text(b" data ");
-            output::hex(data);
-            text(b" command ");
-            output::hex(command);
-        }
+        } => extended(house, unit, data, command),
     }
 }
 
