@@ -1,0 +1,50 @@
+use borrow.Author.Needs.{needs}
+use Prim.Native.Nat.{_≤_}
+use lib.ListN.{length}
+use Rattle.vectors.proofs.output.word_at.Statement.{statement}
+use Rattle.vectors.proofs.output.word_at.Tie as tie
+
+abbrev Inv-loop : tie.InvT-loop
+Inv-loop words n at₀ left₀ at left = at ≤ length words
+
+abbrev μ-loop : tie.MeasureT-loop
+μ-loop words n at₀ left₀ at left = left
+
+loop-holds : tie.Need-loop-holds Inv-loop μ-loop
+loop-holds c = search needs
+
+line-end-requires : tie.Need-line-end-requires Inv-loop μ-loop
+line-end-requires c κs = search needs
+
+returns : tie.Need-returns Inv-loop μ-loop
+returns c = search needs
+
+add-at : tie.Need-add-at Inv-loop μ-loop
+add-at c = search needs
+
+sub-left : tie.Need-sub-left Inv-loop μ-loop
+sub-left c = search needs
+
+loop-less : tie.Need-loop-less Inv-loop μ-loop
+loop-less c = search needs
+
+loop-again : tie.Need-loop-again Inv-loop μ-loop
+loop-again c = search needs
+
+returns-2 : tie.Need-returns-2 Inv-loop μ-loop
+returns-2 c = search needs
+
+pub word-at-spec : {M : Type 1} → statement M
+word-at-spec =
+    tie.close
+    (tie.spec
+    Inv-loop
+    μ-loop
+    loop-holds
+    line-end-requires
+    returns
+    add-at
+    sub-left
+    loop-less
+    loop-again
+    returns-2)

@@ -1,0 +1,92 @@
+// Reading the vectors: lines, the names that they start with, and their digits.
+ghost use Prim.Native.Nat.{_<_, _≤_};
+ghost use lib.ListN.{length};
+ghost use Rattle.io.specs.Counts.{Counts};
+
+// The most bytes or places that a line gives.
+pub(crate) const MOST: usize = 512;
+
+// What no digit stands for.
+const NO_DIGIT: u8 = 16;
+
+// The end of the line that starts at a place of the text: its line feed, or the end of the text.
+pub(crate) fn line_end(text: &[u8], at: usize) -> usize
+    requires { ⌜ at ≤ length (now text) ⌝ }
+    ensures { λ r. ⌜ (at ≤ r) × (r ≤ length (now (text .entry))) ⌝ }
+{
+    let mut end = at;
+    while end < text.len() {
+        if text[end] == b'\n' {
+            return end;
+        }
+        end += 1;
+    }
+    end
+}
+
+// Whether a line starts with a name.
+pub(crate) fn starts(line: &[u8], name: &[u8]) -> bool {
+    let mut i = 0;
+    while i < name.len() {
+        if line.len() <= i {
+            return false;
+        }
+        if line[i] != name[i] {
+            return false;
+        }
+        i += 1;
+    }
+    true
+}
+
+// The value of a hex digit. Letters are capitals, so that a call's name has no digits.
+fn digit(c: u8) -> u8
+    ensures { λ r. ⌜ r ≤ 16 ⌝ }
+{
+    if c < b'0' {
+        return NO_DIGIT;
+    }
+    if c <= b'9' {
+        return c - b'0';
+    }
+    if c < b'A' {
+        return NO_DIGIT;
+    }
+    if c <= b'F' {
+        return c - b'A' + 10;
+    }
+    NO_DIGIT
+}
+
+// Adds a digit to the numbers in the output, of which so many halves are filled, and answers how many are then.
+fn put(out: &mut [u8], filled: usize, halves: usize, d: u8) -> usize
+    requires { ⌜ 512 ≤ length (now out) ⌝ }
+    requires { ⌜ (filled ≤ 1025) × (halves ≤ 2) ⌝ }
+    ensures { λ r. ⌜ r ≤ 1025 ⌝ }
+{
+    if NO_DIGIT <= d {
+        return filled;
+    }
+    if 2 * MOST <= filled {
+        return filled;
+    }
+    let at = filled / 2;
+    out[at] = out[at] % 16 * 16 + d;
+    filled + halves
+}
+
+// Puts the numbers that a line's digits make to the start of the output, and answers their count. A digit fills so many halves of a number:
+// one for bytes, two for places.
+pub(crate) fn digits(line: &[u8], halves: usize, out: &mut [u8]) -> usize
+    requires { ⌜ 512 ≤ length (now out) ⌝ }
+    requires { ⌜ halves ≤ 2 ⌝ }
+    ensures { λ r. ⌜ Counts r (now (out .exit)) ⌝ }
+{
+    let mut filled = 0;
+    let mut i = 0;
+    while i < line.len() {
+        filled = put(out, filled, halves, digit(line[i]));
+        i += 1;
+    }
+    filled / 2
+}
