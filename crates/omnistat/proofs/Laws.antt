@@ -3,7 +3,6 @@ pub mod Group
 pub mod Heard
 pub mod Message
 pub mod Omnistat
-pub mod Outcome
 pub mod Output
 pub mod Part
 pub mod Run

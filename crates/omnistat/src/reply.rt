@@ -25,10 +25,14 @@ pub const ACKNOWLEDGE: u8 = 0;
 pub const NEGATIVE: u8 = 1;
 
 pub const DATA: u8 = 2;
+
 // The numbers of thermostats are 01 to 7F.
 const FIRST_NUMBER: u8 = 0x01;
 
 const LAST_NUMBER: u8 = 0x7F;
+
+// The values of a group follow the second byte.
+const GROUP_VALUES: usize = 2;
 
 // What a message to the host is, with the number of the thermostat that sent it. The values are a part of the message, which
 // `values` and `group_values` hand back.
@@ -133,7 +137,7 @@ pub fn values(bytes: &[u8], count: u8) -> &[u8]
 pub fn group_values(bytes: &[u8], count: u8) -> &[u8]
     ensures { λ r. ⌜ now r ≡ take count (drop 2 (now (bytes .entry))) ⌝ }
 {
-    crate::frame::part(bytes, 2, count as usize)
+    crate::frame::part(bytes, GROUP_VALUES, count as usize)
 }
 
 // Whether a type and its data bytes are a reply.

@@ -1,4 +1,3 @@
-pub mod Decided
 pub mod Fahrenheit
 pub mod Float
 pub mod Map
@@ -6,5 +5,4 @@ pub mod Rules
 pub mod Set
 pub mod Setpoints
 pub mod Step
-pub mod Table
 pub mod Temperature

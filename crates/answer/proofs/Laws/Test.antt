@@ -1,6 +1,7 @@
 -- One check of a definition against the fact that decides it. Assumes nothing.
 use mathlib.Core.Path.{_≡_, refl, sym, ap}
-use mathlib.Core.Bool.{Bool, true, false, not}
+use mathlib.Core.Bool.{Bool, true, false, not, cond}
+use mathlib.Core.Logic.{_⊎_, inl, inr}
 use Prim.Native.Nat.{ℕ, _<_, _≤_}
 use native.Mathlib.Omega.{arith}
 use lib.Dec.{ltb, eqb}
@@ -63,3 +64,8 @@ module _ {A B : Type 0} where
 pub in-one : {A B C : Type 0} (f : A → B) (g : B → C) (o : Outcome A) → onAccepted g (onAccepted f o) ≡ onAccepted (λ a. g (f a)) o
 in-one f g (refused n) = refl
 in-one f g (accepted a) = refl
+
+-- either way of a test
+pub chosen : {A : Type 0} (t : Bool) (x y z : A) → cond t x y ≡ z → ((t ≡ true) × (x ≡ z)) ⊎ ((t ≡ false) × (y ≡ z))
+chosen true x y z e = inl (refl, e)
+chosen false x y z e = inr (refl, e)

@@ -12,7 +12,7 @@ use Rattle.answer.specs.Answer.{refused, accepted, refuseIf}
 use Rattle.omnistat.specs.declared.frame.End.{End}
 use Rattle.omnistat.specs.declared.frame.End.the-variants.{Host}
 use Rattle.omnistat.specs.Frame.{Frame, frame, directed, sumOf, summed, bytesOf}
-use Rattle.omnistat.proofs.Laws.Outcome.{never, same-accepted, passed, passed-not}
+use Rattle.answer.proofs.Laws.Test.{not-accepted, same, passed, passed-not}
 
 -- the byte at a place is the sum of those before it
 abbrev pub sumTest : List ℕ → ℕ → Bool
@@ -95,14 +95,14 @@ at-host first h = simp (le-leb first 255 h, and-true)
 pub taken-apart : (end : End) (s : List ℕ) (f : Frame) → frame end s ≡ accepted f
     → (directed end (f .first) ≡ true) × (f .kind < 16) × (bytesOf f ≡ s)
 unfolding frame
-taken-apart end [] f e = absurd (never 1 f e)
-taken-apart end (a ∷ []) f e = absurd (never 1 f (passed-not 2 (refused 1) f (directed end a) e .1))
+taken-apart end [] f e = absurd (not-accepted 1 f e)
+taken-apart end (a ∷ []) f e = absurd (not-accepted 1 f (passed-not (directed end a) 2 (refused 1) f e .1))
 taken-apart end (a ∷ b ∷ s) f e =
-    let p = passed-not 2 _ f (directed end a) e in
-    let q = passed 1 _ f (ltb (length (a ∷ b ∷ s)) (b / 16 + 3)) (p .1) in
-    let r = passed 4 _ f (ltb (b / 16 + 3) (length (a ∷ b ∷ s))) (q .1) in
-    let u = passed-not 5 (accepted (taken (a ∷ b ∷ s))) f (eqb (getD s (b / 16) 0) (sumOf (a ∷ b ∷ take (b / 16) s))) (r .1) in
-    let g : taken (a ∷ b ∷ s) ≡ f = same-accepted (u .1) in
+    let p = passed-not (directed end a) 2 _ f e in
+    let q = passed (ltb (length (a ∷ b ∷ s)) (b / 16 + 3)) 1 _ f (p .1) in
+    let r = passed (ltb (b / 16 + 3) (length (a ∷ b ∷ s))) 4 _ f (q .1) in
+    let u = passed-not (eqb (getD s (b / 16) 0) (sumOf (a ∷ b ∷ take (b / 16) s))) 5 (accepted (taken (a ∷ b ∷ s))) f (r .1) in
+    let g : taken (a ∷ b ∷ s) ≡ f = same (u .1) in
     let n : length s ≡ b / 16 + 1 = omega (arith, ltb-false (length (a ∷ b ∷ s)) (b / 16 + 3) (q .0), ltb-false (b / 16 + 3) (length (a ∷ b ∷ s)) (r .0)) in
     let k : b % 16 < 16 = omega arith in (
       ap (λ (h : Frame). directed end (h .first)) (sym g) ∙ p .0,

@@ -21,7 +21,7 @@ use Rattle.omnistat.specs.Message.{Message, setFrom, dataFrom, group, as
 use Rattle.omnistat.specs.Omnistat.{Addressed, addressed, read, writeBytes}
 use Rattle.omnistat.specs.Answer.{requestIn, replyIn}
 use Rattle.omnistat.specs.Parts.{runIn, Says, passed}
-use Rattle.omnistat.proofs.Laws.Outcome.{same-accepted, passed-not, then-accepted, heard-twice}
+use Rattle.answer.proofs.Laws.Test.{same, passed-not, then-accepted, in-one}
 use Rattle.omnistat.proofs.Laws.Message.{run-natural}
 use Rattle.omnistat.proofs.Laws.Omnistat.{write-after-read}
 use Rattle.omnistat.proofs.Laws.Typed.{again}
@@ -62,7 +62,7 @@ pub checked : {A M : Type 0} (reading : List ℕ → A → Outcome (Addressed M)
 checked {A = A} reading payload r q o says k =
     ap (λ (x : A). onAccepted passed (reading (0 ∷ 0 ∷ (payload ++ [])) x)) (sym k)
     ∙ ap (onAccepted passed) (says [])
-    ∙ heard-twice (addressed 0) passed o
+    ∙ in-one (addressed 0) passed o
 
 -- a run that was read is made into a message
 pub run-made : {M : Type 0} (address : ℕ) (make : ℕ → List ℕ → M) (payload : List ℕ) (r : Run)
@@ -84,7 +84,7 @@ message-read end address m s e =
     then-accepted (asMessage end (bodyOf end m .kind) (bodyOf end m .payload))
     (λ n. refuseIf (not (directed end (firstOf end address))) 8 (accepted bytes)) s (write-after-read end address m s e) in (
       p .1 ∙ ap accepted (sym (again end m (p .0) (p .1))),
-      sym (same-accepted (passed-not 8 (accepted bytes) s (directed end (firstOf end address)) (p .2) .1)),
+      sym (same (passed-not (directed end (firstOf end address)) 8 (accepted bytes) s (p .2) .1)),
     )
 
 -- values that stand before one more byte are as many as were taken

@@ -14,7 +14,7 @@ use Rattle.omnistat.specs.Frame.{Frame, framed, frame, directed, address
 use Rattle.omnistat.specs.Message.{Message, setFrom, dataFrom, asMessage, bodyOf}
 use Rattle.omnistat.specs.Omnistat.{Addressed, addressed, read, write, writeBytes}
 use Rattle.omnistat.specs.Parts.{passed}
-use Rattle.omnistat.proofs.Laws.Outcome.{same-accepted, passed-not, then-accepted, on-accepted, still-refused}
+use Rattle.answer.proofs.Laws.Test.{same, passed-not, then-accepted, on-accepted, still-refused}
 use Rattle.omnistat.proofs.Laws.Frame.{taken-apart, read-back}
 use Rattle.omnistat.proofs.Laws.Message.{too-low, too-high, inside, within-both, run-long}
 use Rattle.omnistat.proofs.Laws.Typed.{told, kind-fits, again}
@@ -70,9 +70,9 @@ unfolding writeBytes
 read-after-write-bytes end address kind payload bytes e =
     let f : Frame = record { first = firstOf end address; kind = kind; payload = payload } in
     let p = then-accepted (asMessage end kind payload) (λ m. refuseIf (not (directed end (firstOf end address))) 8 (accepted (bytesOf f))) bytes e in
-    let q = passed-not 8 (accepted (bytesOf f)) bytes (directed end (firstOf end address)) (p .2) in
+    let q = passed-not (directed end (firstOf end address)) 8 (accepted (bytesOf f)) bytes (p .2) in
     let k : kind < 16 = subst (λ (n : ℕ). n < 16) (told end kind payload (p .0) (p .1) .0) (kind-fits end (p .0)) in
-    ap (read end) (sym (same-accepted (q .1)))
+    ap (read end) (sym (same (q .1)))
     ∙ read-whole end (bytesOf f) f (sym (read-back end f (q .0) k))
     ∙ ap (λ (a : ℕ). onAccepted (addressed a) (asMessage end kind payload)) (address-of-first end address)
 

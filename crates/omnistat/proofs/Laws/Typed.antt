@@ -16,7 +16,7 @@ use Rattle.omnistat.specs.declared.frame.End.the-variants.{Thermostat, H
 use Rattle.omnistat.specs.Register.{within, runAllowed}
 use Rattle.omnistat.specs.Group.{pollType, replyType, replyLength, groupOf}
 use Rattle.omnistat.specs.Message.{Message, poll, setFrom, pollGroup, acknowledge, negative, dataFrom, group, ofLength, asPoll, asRun, asMessage, bodyOf}
-use Rattle.omnistat.proofs.Laws.Outcome.{never, same-accepted, passed-not, then-accepted, chosen}
+use Rattle.answer.proofs.Laws.Test.{not-accepted, same, passed-not, then-accepted, chosen}
 use Rattle.omnistat.proofs.Laws.Message.{within-both}
 
 -- a message that is read from a type and data bytes carries these, and they fit the halves of the second byte
@@ -27,29 +27,29 @@ Told end t d m = (bodyOf end m .kind ≡ t) × ((bodyOf end m .payload ≡ d) ×
 told-length : (end : End) (t : ℕ) (d : List ℕ) (m b : Message end) (n : ℕ) → n ≤ 15 → bodyOf end b .kind ≡ t
     → (length d ≡ n → bodyOf end b .payload ≡ d) → ofLength n d b ≡ accepted m → Told end t d m
 told-length end t d m b n l k p a =
-    let q = passed-not 7 (accepted b) m (eqb (length d) n) a in
+    let q = passed-not (eqb (length d) n) 7 (accepted b) m a in
     let e : length d ≡ n = eqb-true (length d) n (q .0) in
     let f : length d ≤ 15 = omega arith in
-    subst (Told end t d) (same-accepted (q .1)) (k, (p e, f))
+    subst (Told end t d) (same (q .1)) (k, (p e, f))
 
 told-run : (end : End) (t : ℕ) (d : List ℕ) (m : Message end) (make : ℕ → List ℕ → Message end)
     → ((s : ℕ) (v : List ℕ) → bodyOf end (make s v) .kind ≡ t) → ((s : ℕ) (v : List ℕ) → bodyOf end (make s v) .payload ≡ s ∷ v)
     → asRun make d ≡ accepted m → Told end t d m
-told-run end t [] m make k p a = absurd (never 7 m a)
+told-run end t [] m make k p a = absurd (not-accepted 7 m a)
 told-run end t (x ∷ d) m make k p a =
-    let q = passed-not 7 (refuseIf (not (runAllowed x (length d))) 8 (accepted (make x d))) m (within 1 14 (length d)) a in
-    let r = passed-not 8 (accepted (make x d)) m (runAllowed x (length d)) (q .1) in
+    let q = passed-not (within 1 14 (length d)) 7 (refuseIf (not (runAllowed x (length d))) 8 (accepted (make x d))) m a in
+    let r = passed-not (runAllowed x (length d)) 8 (accepted (make x d)) m (q .1) in
     let f : length (x ∷ d) ≤ 15 = omega (arith, within-both 1 14 (length d) (q .0) .1) in
-    subst (Told end t (x ∷ d)) (same-accepted (r .1)) (k x d, (p x d, f))
+    subst (Told end t (x ∷ d)) (same (r .1)) (k x d, (p x d, f))
 
 told-poll : (d : List ℕ) (m : Message Thermostat) → asPoll d ≡ accepted m → Told Thermostat 0 d m
-told-poll [] m a = absurd (never 7 m a)
-told-poll (x ∷ []) m a = absurd (never 7 m a)
-told-poll (x ∷ y ∷ z ∷ d) m a = absurd (never 7 m a)
+told-poll [] m a = absurd (not-accepted 7 m a)
+told-poll (x ∷ []) m a = absurd (not-accepted 7 m a)
+told-poll (x ∷ y ∷ z ∷ d) m a = absurd (not-accepted 7 m a)
 told-poll (x ∷ y ∷ []) m a =
-    let q = passed-not 8 (accepted (poll x y)) m (within 1 14 y && runAllowed x y) a in
+    let q = passed-not (within 1 14 y && runAllowed x y) 8 (accepted (poll x y)) m a in
     let f : length (x ∷ y ∷ []) ≤ 15 = omega arith in
-    subst (Told Thermostat 0 (x ∷ y ∷ [])) (same-accepted (q .1)) (refl, (refl, f))
+    subst (Told Thermostat 0 (x ∷ y ∷ [])) (same (q .1)) (refl, (refl, f))
 
 no-bytes : (d : List ℕ) → length d ≡ 0 → [] ≡ d
 no-bytes [] h = refl
@@ -66,10 +66,10 @@ found-group : (type : Group → ℕ) (t : ℕ) (g : Group) → groupOf type t �
 found-group type t g =
     one-of t (type First) g (accepted First) _ (found First)
     (one-of t (type Second) g (accepted Second) _ (found Second)
-    (one-of t (type Third) g (accepted Third) (refused 6) (found Third) (λ e. absurd (never 6 g e))))
+    (one-of t (type Third) g (accepted Third) (refused 6) (found Third) (λ e. absurd (not-accepted 6 g e))))
   where
     found : (x : Group) → type x ≡ t → accepted x ≡ accepted g → type g ≡ t
-    found x p q = ap type (sym (same-accepted q)) ∙ p
+    found x p q = ap type (sym (same q)) ∙ p
 
 reply-length-fits : (g : Group) → replyLength g ≤ 15
 reply-length-fits First = omega arith
@@ -118,19 +118,19 @@ kind-fits Host (group g values) = reply-type-fits g
 -- a typed message's own type and data bytes are that message, where they are accepted
 again-run : {M : Type 0} (make : ℕ → List ℕ → M) (start : ℕ) (values : List ℕ) (n : M) → asRun make (start ∷ values) ≡ accepted n → make start values ≡ n
 again-run make start values n e =
-    let p = passed-not 7 (refuseIf (not (runAllowed start (length values))) 8 (accepted (make start values))) n (within 1 14 (length values)) e in
-    same-accepted (passed-not 8 (accepted (make start values)) n (runAllowed start (length values)) (p .1) .1)
+    let p = passed-not (within 1 14 (length values)) 7 (refuseIf (not (runAllowed start (length values))) 8 (accepted (make start values))) n e in
+    same (passed-not (runAllowed start (length values)) 8 (accepted (make start values)) n (p .1) .1)
 
 pub again : (end : End) (m n : Message end) → asMessage end (bodyOf end m .kind) (bodyOf end m .payload) ≡ accepted n → m ≡ n
 unfolding asMessage
-again Thermostat (poll start count) n e = same-accepted (passed-not 8 (accepted (poll start count)) n (within 1 14 count && runAllowed start count) e .1)
+again Thermostat (poll start count) n e = same (passed-not (within 1 14 count && runAllowed start count) 8 (accepted (poll start count)) n e .1)
 again Thermostat (setFrom start values) n e = again-run setFrom start values n e
-again Thermostat (pollGroup First) n e = same-accepted e
-again Thermostat (pollGroup Second) n e = same-accepted e
-again Thermostat (pollGroup Third) n e = same-accepted e
-again Host acknowledge n e = same-accepted e
-again Host negative n e = same-accepted e
+again Thermostat (pollGroup First) n e = same e
+again Thermostat (pollGroup Second) n e = same e
+again Thermostat (pollGroup Third) n e = same e
+again Host acknowledge n e = same e
+again Host negative n e = same e
 again Host (dataFrom start values) n e = again-run dataFrom start values n e
-again Host (group First values) n e = same-accepted (passed-not 7 (accepted (group First values)) n (eqb (length values) 6) e .1)
-again Host (group Second values) n e = same-accepted (passed-not 7 (accepted (group Second values)) n (eqb (length values) 6) e .1)
-again Host (group Third values) n e = same-accepted (passed-not 7 (accepted (group Third values)) n (eqb (length values) 10) e .1)
+again Host (group First values) n e = same (passed-not (eqb (length values) 6) 7 (accepted (group First values)) n e .1)
+again Host (group Second values) n e = same (passed-not (eqb (length values) 6) 7 (accepted (group Second values)) n e .1)
+again Host (group Third values) n e = same (passed-not (eqb (length values) 10) 7 (accepted (group Third values)) n e .1)

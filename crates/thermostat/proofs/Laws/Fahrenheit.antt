@@ -10,7 +10,7 @@ use lib.Signed.{mag}
 use mir.Val.{hbits}
 use borrow.Author.Tests.{ltb-true}
 use Rattle.thermostat.specs.Temperature.{fahrenheitTenths}
-use Rattle.thermostat.proofs.Laws.Table.{below, holds}
+use Rattle.answer.proofs.Laws.Table.{below, holds}
 use Rattle.thermostat.proofs.Laws.Temperature.{agree}
 
 -- nine times a byte, then 400 less

@@ -11,7 +11,7 @@ use lib.Pow.{pow-pos, pow-add}
 use lib.Ieee.Fits.{up-pos, down-pos}
 use lib.Ieee.{Float, nan, inf, fin, Format, prec, low, emax, up, down, fits, eq, level}
 use borrow.Author.Tests.{eqb-true}
-use Rattle.thermostat.proofs.Laws.Table.{both-left, holds}
+use Rattle.answer.proofs.Laws.Table.{both-left, holds}
 
 -- an odd number times a power of two, in one way only
 even : (m t : ℕ) → m % 2 ≡ 1 → m ≡ 2 * t → ⊥

@@ -10,7 +10,7 @@ use borrow.Author.Tests.{eqb-true, eqb-false, leb-true, leb-false, le-leb, lt-le
 use Rattle.omnistat.specs.Register.{within}
 use Rattle.thermostat.specs.Registers.{Range, inAny, listed, readOnly, allowed, settable}
 use Rattle.thermostat.specs.Parts.{takes, flag, lowest, highest, writableFlag, lowOf, highOf, States}
-use Rattle.thermostat.proofs.Laws.Table.{every, at, below, holds, both-left, both-right}
+use Rattle.answer.proofs.Laws.Table.{every, at, below, holds, both-left, both-right}
 
 -- the computed test: each entry is what is stated of its place
 abbrev pub stated : (ℕ → ℕ) → List ℕ → Bool

@@ -13,7 +13,7 @@ use Rattle.omnistat.specs.declared.frame.End.the-variants.{Thermostat}
 use Rattle.omnistat.specs.Register.{within}
 use Rattle.omnistat.specs.Message.{Request, setFrom}
 use Rattle.omnistat.specs.Omnistat.{Addressed, addressed, read}
-use Rattle.omnistat.proofs.Laws.Outcome.{same-accepted, passed, passed-not}
+use Rattle.answer.proofs.Laws.Test.{same, passed, passed-not}
 use Rattle.thermostat.specs.Map.{content, stored}
 use Rattle.thermostat.specs.Step.{isFor, allSettable, changed, Done, done, step}
 use Rattle.thermostat.proofs.Laws.Map.{stored-in, stored-before, stored-past}
@@ -27,9 +27,9 @@ module _ (own : ℕ) (m s : List ℕ) (room : ℕ) (d : Done) (e : step own m s 
   whole-map : (length m ≡ 256) × (Later ≡ accepted d)
   unfolding step
   whole-map =
-      let p = passed 9 (refuseIf (not (eqb (length m) 256)) 9 (refuseIf (not (within 1 127 own)) 8 Later)) d (ltb room 18) e in
-      let q = passed-not 9 (refuseIf (not (within 1 127 own)) 8 Later) d (eqb (length m) 256) (p .1) in
-      let r = passed-not 8 Later d (within 1 127 own) (q .1) in
+      let p = passed (ltb room 18) 9 (refuseIf (not (eqb (length m) 256)) 9 (refuseIf (not (within 1 127 own)) 8 Later)) d e in
+      let q = passed-not (eqb (length m) 256) 9 (refuseIf (not (within 1 127 own)) 8 Later) d (p .1) in
+      let r = passed-not (within 1 127 own) 8 Later d (q .1) in
       (eqb-true (length m) 256 (q .0), r .1)
 
   module _ (first start : ℕ) (values : List ℕ) (r : read Thermostat s ≡ accepted (addressed first (setFrom start values)))
@@ -39,7 +39,7 @@ module _ (own : ℕ) (m s : List ℕ) (room : ℕ) (d : Done) (e : step own m s 
         let q = addressed first (setFrom start values) in
         let k : accepted (done own m q) ≡ accepted d
         = sym (ap (λ (o : Outcome (Addressed Request)). onAccepted (done own m) o) r) ∙ whole-map .1 in
-        ap (λ (x : Done). x .map) (sym (same-accepted k)) ∙ heard-map own first m (setFrom start values) f
+        ap (λ (x : Done). x .map) (sym (same k)) ∙ heard-map own first m (setFrom start values) f
 
     -- every register listed, writable and in range: all values are stored
     module _ (a : allSettable start values ≡ true) where

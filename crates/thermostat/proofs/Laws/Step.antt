@@ -18,7 +18,7 @@ use Rattle.omnistat.specs.Register.{within, runAllowed}
 use Rattle.omnistat.specs.Frame.{directed, firstOf}
 use Rattle.omnistat.specs.Message.{Request, Reply, poll, setFrom, pollGroup, acknowledge, negative, dataFrom, group, asMessage, bodyOf}
 use Rattle.omnistat.specs.Omnistat.{Addressed, addressed, read, write, writeBytes}
-use Rattle.omnistat.proofs.Laws.Outcome.{passed-not}
+use Rattle.answer.proofs.Laws.Test.{passed-not}
 use Rattle.omnistat.proofs.Laws.Message.{and-parts, within-both}
 use Rattle.omnistat.proofs.Laws.Heard.{message-read}
 use Rattle.omnistat.proofs.Laws.Output.{bytes-length}
@@ -174,7 +174,7 @@ module _ (s : List ℕ) (first start : ℕ) where
       let q = poll start count in
       let p =
       and-parts (within 1 14 count) (runAllowed start count)
-      (passed-not 8 (accepted q) q (within 1 14 count && runAllowed start count) (message-read Thermostat first q s e .0) .0) in
+      (passed-not (within 1 14 count && runAllowed start count) 8 (accepted q) q (message-read Thermostat first q s e .0) .0) in
       (within-both 1 14 count (p .0), p .1)
 
   pub set-read : (values : List ℕ) → read Thermostat s ≡ accepted (addressed first (setFrom start values)) → start + length values ≤ 256
@@ -182,8 +182,8 @@ module _ (s : List ℕ) (first start : ℕ) where
   set-read values e =
       let q = setFrom start values in
       let n = length values in
-      let p = passed-not 7 (refuseIf (not (runAllowed start n)) 8 (accepted q)) q (within 1 14 n) (message-read Thermostat first q s e .0) in
-      run-end start n (passed-not 8 (accepted q) q (runAllowed start n) (p .1) .0)
+      let p = passed-not (within 1 14 n) 7 (refuseIf (not (runAllowed start n)) 8 (accepted q)) q (message-read Thermostat first q s e .0) in
+      run-end start n (passed-not (runAllowed start n) 8 (accepted q) q (p .1) .0)
 
 -- ---- the checks of a step
 

@@ -14,7 +14,7 @@ use lib.Ieee.Fits.{round-fits}
 use borrow.Author.Tests.{eqb-true}
 use Rattle.answer.specs.Answer.{Outcome, refused, accepted}
 use Rattle.thermostat.specs.Temperature.{celsius, firstEqual, byteOf}
-use Rattle.thermostat.proofs.Laws.Table.{below, holds, both-left, both-right}
+use Rattle.answer.proofs.Laws.Table.{below, holds, both-left, both-right}
 use Rattle.thermostat.proofs.Laws.Float.{equal, zeroOf}
 
 -- ---- two functions that give the same at every byte, by a computed list of their values
