@@ -26,22 +26,8 @@ pub data Message : Type 0 where
   messageStatus : List TextMessage → Message
 
 -- 05, 06, 0D, 11, 13, 21, 22: L=1
-unfoldable pub plainListed : ℕ → Bool
-plainListed kind =
-    eqb kind 0x05 || eqb kind 0x06 || eqb kind 0x0D || eqb kind 0x11 || eqb kind 0x13 || eqb kind 0x21 || eqb kind 0x22
-
-unfoldable pub plainOf : ℕ → Fixed
-plainOf kind =
-    cond (eqb kind 0x05) F.Acknowledge
-    (cond (eqb kind 0x06) F.NegativeAcknowledge
-    (cond (eqb kind 0x0D) F.UploadEventLog
-    (cond (eqb kind 0x11) F.RequestSystemInformation
-    (cond (eqb kind 0x13) F.RequestSystemStatus
-    (cond (eqb kind 0x21) F.Logout
-    F.RequestSystemEvents)))))
-
-unfoldable pub readPlain : ℕ → List ℕ → Outcome Message
-readPlain kind d = refuseIf (not (eqb (length d) 0)) 7 (accepted (fixed (plainOf kind)))
+unfoldable pub readPlain : Fixed → List ℕ → Outcome Message
+readPlain f d = refuseIf (not (eqb (length d) 0)) 7 (accepted (fixed f))
 
 -- 20 login: L=5, four digits 00 to 09
 unfoldable pub digitsListed : ℕ → ℕ → ℕ → ℕ → Bool
@@ -89,18 +75,29 @@ readMessageStatus d =
     (refuseIf (not (eqb (getD d 0 0) 0)) 8
     (accepted (messageStatus (texts (drop 1 d)))))
 
--- 6, 7, 8: all other types are 6
-unfoldable pub messageOf : ℕ → List ℕ → Outcome Message
-messageOf kind d =
-    cond (plainListed kind) (readPlain kind d)
-    (cond (eqb kind 0x20) (readLogin d)
+-- the types with data; all other types are 6
+unfoldable pub withData : ℕ → List ℕ → Outcome Message
+withData kind d =
+    cond (eqb kind 0x20) (readLogin d)
     (cond (eqb kind 0x15) (readZoneRequest d)
     (cond (eqb kind 0x16) (readZoneStatus d)
     (cond (eqb kind 0x23) (readEvents d)
     (cond (eqb kind 0x25) (readMessageStatus d)
     (cond (eqb kind 0x0E) (onAccepted (λ e. fixed (F.LogEntry e)) (readLog d))
     (cond (eqb kind 0x0F) (onAccepted (λ c. fixed (F.Command c)) (readCommand d))
-    (refused 6))))))))
+    (refused 6)))))))
+
+-- every type: 6, 7, 8
+unfoldable pub messageOf : ℕ → List ℕ → Outcome Message
+messageOf kind d =
+    cond (eqb kind 0x05) (readPlain F.Acknowledge d)
+    (cond (eqb kind 0x06) (readPlain F.NegativeAcknowledge d)
+    (cond (eqb kind 0x0D) (readPlain F.UploadEventLog d)
+    (cond (eqb kind 0x11) (readPlain F.RequestSystemInformation d)
+    (cond (eqb kind 0x13) (readPlain F.RequestSystemStatus d)
+    (cond (eqb kind 0x21) (readPlain F.Logout d)
+    (cond (eqb kind 0x22) (readPlain F.RequestSystemEvents d)
+    (withData kind d)))))))
 
 -- the message reader: the frame reader's answers, then 6, 7, 8
 unfoldable pub readMessage : List ℕ → Outcome Message

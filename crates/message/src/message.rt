@@ -16,7 +16,7 @@ ghost use Rattle.answer.specs.Answer.{accepted, refuseIf, onAccepted, inRoom, o
 ghost use Rattle.message.specs.Command.{readCommand};
 ghost use Rattle.message.specs.Items.{zonesListed};
 ghost use Rattle.message.specs.Log.{readLog};
-ghost use Rattle.message.specs.Message.{plainListed, plainOf, digitsListed, orderListed, readPlain, readLogin, readZoneRequest, readZoneStatus, readEvents, readMessageStatus, messageOf, readMessage, writeMessage, counted, messageRead};
+ghost use Rattle.message.specs.Message.{digitsListed, orderListed, readPlain, readLogin, readZoneRequest, readZoneStatus, readEvents, readMessageStatus, withData, messageOf, readMessage, writeMessage, counted, messageRead};
 
 // The messages of fixed length: those without data (05, 06, 0D, 11, 13, 21, 22), 20, 15, 0E and 0F.
 pub enum Fixed {
@@ -54,62 +54,14 @@ pub enum MessageRead {
     Refused(Refusal),
 }
 
-// Whether a type is one of the seven without data.
-fn plain_listed(kind: u8) -> bool
-    ensures { λ r. ⌜ r ≡ plainListed kind ⌝ }
-{
-    if kind == 0x05 {
-        return true;
-    }
-    if kind == 0x06 {
-        return true;
-    }
-    if kind == 0x0D {
-        return true;
-    }
-    if kind == 0x11 {
-        return true;
-    }
-    if kind == 0x13 {
-        return true;
-    }
-    if kind == 0x21 {
-        return true;
-    }
-    kind == 0x22
-}
-
-fn plain_of(kind: u8) -> Fixed
-    ensures { λ r. ⌜ r ≡ plainOf kind ⌝ }
-{
-    if kind == 0x05 {
-        return Fixed::Acknowledge;
-    }
-    if kind == 0x06 {
-        return Fixed::NegativeAcknowledge;
-    }
-    if kind == 0x0D {
-        return Fixed::UploadEventLog;
-    }
-    if kind == 0x11 {
-        return Fixed::RequestSystemInformation;
-    }
-    if kind == 0x13 {
-        return Fixed::RequestSystemStatus;
-    }
-    if kind == 0x21 {
-        return Fixed::Logout;
-    }
-    Fixed::RequestSystemEvents
-}
-
-fn plain(kind: u8, data: &[u8]) -> MessageRead
-    ensures { λ r. ⌜ messageRead r ≡ onAccepted counted (readPlain kind (now («data» .entry))) ⌝ }
+// A message of a type without data.
+fn plain(f: Fixed, data: &[u8]) -> MessageRead
+    ensures { λ r. ⌜ messageRead r ≡ onAccepted counted (readPlain f (now («data» .entry))) ⌝ }
 {
     if data.len() != 0 {
         return MessageRead::Refused(Refusal::TypeLength);
     }
-    MessageRead::Accepted(Message::Fixed(plain_of(kind)))
+    MessageRead::Accepted(Message::Fixed(f))
 }
 
 // Whether four digits are each 00 to 09.
@@ -269,13 +221,10 @@ fn command(data: &[u8]) -> MessageRead
     }
 }
 
-// The message that a frame's type and data bytes carry: 6, 7, 8.
-pub fn of_data(kind: u8, data: &[u8]) -> MessageRead
-    ensures { λ r. ⌜ messageRead r ≡ onAccepted counted (messageOf kind (now («data» .entry))) ⌝ }
+// The message of a type with data; other types are 6.
+fn with_data(kind: u8, data: &[u8]) -> MessageRead
+    ensures { λ r. ⌜ messageRead r ≡ onAccepted counted (withData kind (now («data» .entry))) ⌝ }
 {
-    if plain_listed(kind) {
-        return plain(kind, data);
-    }
     if kind == 0x20 {
         return login(data);
     }
@@ -298,6 +247,34 @@ pub fn of_data(kind: u8, data: &[u8]) -> MessageRead
         return command(data);
     }
     MessageRead::Refused(Refusal::Unknown)
+}
+
+// The message that a frame's type and data bytes carry: 6, 7, 8.
+pub fn of_data(kind: u8, data: &[u8]) -> MessageRead
+    ensures { λ r. ⌜ messageRead r ≡ onAccepted counted (messageOf kind (now («data» .entry))) ⌝ }
+{
+    if kind == 0x05 {
+        return plain(Fixed::Acknowledge, data);
+    }
+    if kind == 0x06 {
+        return plain(Fixed::NegativeAcknowledge, data);
+    }
+    if kind == 0x0D {
+        return plain(Fixed::UploadEventLog, data);
+    }
+    if kind == 0x11 {
+        return plain(Fixed::RequestSystemInformation, data);
+    }
+    if kind == 0x13 {
+        return plain(Fixed::RequestSystemStatus, data);
+    }
+    if kind == 0x21 {
+        return plain(Fixed::Logout, data);
+    }
+    if kind == 0x22 {
+        return plain(Fixed::RequestSystemEvents, data);
+    }
+    with_data(kind, data)
 }
 
 // Reads a byte string as a whole message: the frame reader's answers, then 6, 7, 8.

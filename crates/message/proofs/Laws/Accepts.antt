@@ -1,17 +1,20 @@
 -- What each type's reader accepts. Assumes nothing.
-use mathlib.Core.Path.{_≡_, refl, subst}
+use mathlib.Core.Path.{_≡_, refl, sym, ap, subst}
 use mathlib.Core.Bool.{Bool, true, false, cond, not}
-use mathlib.Core.List.{List}
+use mathlib.Core.List.{List, []}
 use Prim.Native.Nat.{ℕ, _%_}
 use lib.Dec.{eqb, ltb}
 use lib.ListN.{length, getD, drop}
 use borrow.Author.Tests.{eqb-true, not-false}
 use Rattle.answer.specs.Answer.{Outcome, refused, accepted, refuseIf, onAccepted}
 use Rattle.answer.proofs.Laws.Test.{not-accepted}
+use Rattle.link.specs.Frame.{Frame}
 use Rattle.message.specs.Items.{zones, zonesListed, words, texts}
-use Rattle.message.specs.Message.{Message, fixed, zoneStatus, events, messageStatus, plainListed, plainOf, digitsListed, orderListed, statusLength, readPlain, readLogin, readZoneRequest, readZoneStatus, readEvents, readMessageStatus, messageOf}
+use Rattle.message.specs.Message.{Message, fixed, zoneStatus, events, messageStatus, digitsListed, orderListed, statusLength, readPlain, readLogin, readZoneRequest, readZoneStatus, readEvents, readMessageStatus, withData, messageOf}
 use Rattle.message.specs.Command.{readCommand}
 use Rattle.message.specs.Log.{readLog}
+use Rattle.message.specs.Typed.{fixedFrame}
+use Rattle.message.specs.declared.message.Fixed.{Fixed}
 use Rattle.message.specs.declared.message.Fixed.the-variants as F
 use Rattle.message.specs.declared.log.LogEntry.{LogEntry}
 use Rattle.message.specs.declared.command.Command.{Command}
@@ -37,14 +40,20 @@ module _ (P : Message → Type 0) where
   every-mapped f (accepted x) h m e = every-value (f x) (h x refl) m e
 
   -- type by type
-  pub every-type : (kind : ℕ) (d : List ℕ) → (plainListed kind ≡ true → Every (readPlain kind d)) → (kind ≡ 0x20 → Every (readLogin d))
+  pub every-type : (kind : ℕ) (d : List ℕ) → ((f : Fixed) → fixedFrame f ≡ record { kind = kind; bytes = [] } → Every (readPlain f d)) → (kind ≡ 0x20 → Every (readLogin d))
       → (kind ≡ 0x15 → Every (readZoneRequest d)) → (kind ≡ 0x16 → Every (readZoneStatus d)) → (kind ≡ 0x23 → Every (readEvents d))
       → (kind ≡ 0x25 → Every (readMessageStatus d)) → (kind ≡ 0x0E → Every (onAccepted (λ e. fixed (F.LogEntry e)) (readLog d)))
       → (kind ≡ 0x0F → Every (onAccepted (λ c. fixed (F.Command c)) (readCommand d)))
       → Every (messageOf kind d)
-  unfolding messageOf
+  unfolding messageOf withData
   every-type kind d plain login request zone event text log command =
-      every-cond (plainListed kind) _ _ plain
+      every-cond (eqb kind 0x05) _ _ (λ e. plain F.Acknowledge (blank 0x05 e))
+      (every-cond (eqb kind 0x06) _ _ (λ e. plain F.NegativeAcknowledge (blank 0x06 e))
+      (every-cond (eqb kind 0x0D) _ _ (λ e. plain F.UploadEventLog (blank 0x0D e))
+      (every-cond (eqb kind 0x11) _ _ (λ e. plain F.RequestSystemInformation (blank 0x11 e))
+      (every-cond (eqb kind 0x13) _ _ (λ e. plain F.RequestSystemStatus (blank 0x13 e))
+      (every-cond (eqb kind 0x21) _ _ (λ e. plain F.Logout (blank 0x21 e))
+      (every-cond (eqb kind 0x22) _ _ (λ e. plain F.RequestSystemEvents (blank 0x22 e))
       (every-cond (eqb kind 0x20) _ _ (λ e. login (eqb-true kind 0x20 e))
       (every-cond (eqb kind 0x15) _ _ (λ e. request (eqb-true kind 0x15 e))
       (every-cond (eqb kind 0x16) _ _ (λ e. zone (eqb-true kind 0x16 e))
@@ -52,14 +61,17 @@ module _ (P : Message → Type 0) where
       (every-cond (eqb kind 0x25) _ _ (λ e. text (eqb-true kind 0x25 e))
       (every-cond (eqb kind 0x0E) _ _ (λ e. log (eqb-true kind 0x0E e))
       (every-cond (eqb kind 0x0F) _ _ (λ e. command (eqb-true kind 0x0F e))
-      (λ m e. absurd (not-accepted 6 m e)))))))))
+      (λ m e. absurd (not-accepted 6 m e)))))))))))))))
+    where
+      blank : (k : ℕ) → eqb kind k ≡ true → _≡_ {A = Frame} (record { kind = k; bytes = [] }) (record { kind = kind; bytes = [] })
+      blank k e = ap {B = Frame} (λ x. record { kind = x; bytes = [] }) (sym (eqb-true kind k e))
 
 -- ---- each type's reader: what holds of its message
 
 module _ (P : Message → Type 0) where
-  pub every-plain : (kind : ℕ) (d : List ℕ) → (length d ≡ 0 → P (fixed (plainOf kind))) → Every P (readPlain kind d)
+  pub every-plain : (f : Fixed) (d : List ℕ) → (length d ≡ 0 → P (fixed f)) → Every P (readPlain f d)
   unfolding readPlain
-  every-plain kind d h =
+  every-plain f d h =
       every-check P (not (eqb (length d) 0)) 7 _ (λ e. every-value P _ (h (eqb-true (length d) 0 (not-false (eqb (length d) 0) e))))
 
   pub every-login : (d : List ℕ) → (length d ≡ 4 → P (fixed (F.Login (getD d 0 0) (getD d 1 0) (getD d 2 0) (getD d 3 0)))) → Every P (readLogin d)

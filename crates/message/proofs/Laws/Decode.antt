@@ -13,7 +13,7 @@ use Rattle.answer.proofs.Laws.Test.{passed}
 use Rattle.message.specs.Command.{commandListed, commandOf, checkedCommand, readCommand}
 use Rattle.message.specs.Items.{conditionOf, latchedOf, armingOf, zoneOf, textOf, zones, words, texts}
 use Rattle.message.specs.Log.{logListed, logOf, readLog}
-use Rattle.message.specs.Message.{Message, fixed, digitsListed, orderListed, plainListed, plainOf, readPlain, readLogin, readZoneRequest, messageOf}
+use Rattle.message.specs.Message.{Message, fixed, digitsListed, orderListed, readPlain, readLogin, readZoneRequest, withData, messageOf}
 use Rattle.message.specs.Typed.{durationP1, parameters, commandBytes, logBytes, fixedFrame, conditionBits, latchedBits, armingBits, flag, statusByte, zoneBytes, eventBytes, textBits, textBytes}
 use Rattle.message.specs.declared.command.Duration.{Duration}
 use Rattle.message.specs.declared.command.Command.{Command}
@@ -87,7 +87,7 @@ log-back e r h =
 -- ---- messages of fixed length
 
 pub fixed-back : (f : Fixed) (m : Message) → messageOf (fixedFrame f .kind) (fixedFrame f .bytes) ≡ accepted m → m ≡ fixed f
-unfolding messageOf plainListed readPlain plainOf readLogin readZoneRequest
+unfolding messageOf withData readPlain readLogin readZoneRequest
 fixed-back F.Acknowledge m e = cc
 fixed-back F.NegativeAcknowledge m e = cc
 fixed-back F.UploadEventLog m e = cc

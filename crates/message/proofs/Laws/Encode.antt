@@ -1,6 +1,6 @@
 -- What is decoded is encoded to itself: each message that data bytes carry is written as those bytes. Assumes nothing.
 use mathlib.Core.Path.{_≡_, refl, sym, ap, subst, _∙_}
-use mathlib.Core.Bool.{Bool, true, false, not, cond, _&&_, _||_}
+use mathlib.Core.Bool.{Bool, true, false, not, cond, _&&_}
 use mathlib.Core.List.{List, [], _∷_}
 use Prim.Native.Nat.{ℕ, zero, suc, _+_, _*_, _/_, _%_, _<_}
 use native.Mathlib.Omega.{arith}
@@ -11,7 +11,6 @@ use lib.Pow.{areBytes}
 use borrow.Author.Tests.{eqb-true, eqb-false, ltb-true, not-true}
 use Rattle.message.specs.Command.{durationListed, commandListed, commandOf}
 use Rattle.message.specs.Items.{zoneOf, zoneListed, zonesListed, textOf, zones, words, texts}
-use Rattle.message.specs.Message.{plainListed}
 use Rattle.message.specs.Typed.{parameters, commandBytes, conditionBits, latchedBits, armingBits, flag, statusByte, zoneBytes, eventBytes, textBits, textBytes}
 use Rattle.message.specs.declared.items.Condition.{Condition}
 use Rattle.message.specs.declared.items.Condition.the-variants as Condition
@@ -52,20 +51,6 @@ ten-of (a ∷ b ∷ c ∷ []) e = let z : ⊥ = omega arith in absurd z
 ten-of (a ∷ b ∷ c ∷ f ∷ []) e = let z : ⊥ = omega arith in absurd z
 ten-of (a ∷ b ∷ c ∷ f ∷ g ∷ []) e = let z : ⊥ = omega arith in absurd z
 ten-of (a ∷ b ∷ c ∷ f ∷ g ∷ h ∷ d) e = ap {B = List ℕ} (λ t. a ∷ b ∷ c ∷ f ∷ g ∷ h ∷ t) (four-of d (omega arith))
-
--- ---- the seven types without data
-
-pub which-plain : (P : ℕ → Type 0) → P 0x05 → P 0x06 → P 0x0D → P 0x11 → P 0x13 → P 0x21 → P 0x22 → (kind : ℕ) → plainListed kind ≡ true → P kind
-unfolding plainListed
-which-plain P a b c d e f g kind h =
-    either _ _ (either _ _ (either _ _ (either _ _ (either _ _ (either _ _ (at 0x05 a) (at 0x06 b)) (at 0x0D c)) (at 0x11 d)) (at 0x13 e)) (at 0x21 f)) (at 0x22 g) h
-  where
-    at : (k : ℕ) → P k → eqb kind k ≡ true → P kind
-    at k p q = subst P (sym (eqb-true kind k q)) p
-
-    either : (s t : Bool) → (s ≡ true → P kind) → (t ≡ true → P kind) → (s || t) ≡ true → P kind
-    either true t l r q = l refl
-    either false t l r q = r q
 
 -- ---- commands
 

@@ -9,7 +9,7 @@ use lib.ListN.{length, getD, drop, length-drop}
 use borrow.Author.Tests.{eq-eqb, ne-eqb, le-ltb}
 use Rattle.answer.specs.Answer.{refused, accepted, refuseIf, onAccepted}
 use Rattle.message.specs.Items.{zoneOf, zones, zonesListed, texts}
-use Rattle.message.specs.Message.{zoneStatus, messageStatus, statusLength, plainListed, readPlain, readZoneStatus, readMessageStatus, messageOf, counted}
+use Rattle.message.specs.Message.{zoneStatus, messageStatus, statusLength, readZoneStatus, readMessageStatus, withData, messageOf, counted}
 use Rattle.message.specs.declared.message.Message.the-variants as C
 use Rattle.message.proofs.Laws.Checked.{refuses, passes, behind-check}
 use Rattle.message.proofs.Laws.Lists.{pairs-length, texts-length}
@@ -41,14 +41,16 @@ status-read d n count e listed four =
     ∙ sym (behind-check counted t 8 (accepted (messageStatus (texts (drop 1 d)))))
     ∙ ap (onAccepted counted) (passes 7 (refuseIf t 8 (accepted (messageStatus (texts (drop 1 d))))) refl (ap statusLength e ∙ listed))
 
--- the seven types without data, and the types that are not listed
+-- the types that are not those tested
 module _ (kind : ℕ) (d : List ℕ) where
-  pub is-plain : plainListed kind ≡ true → messageOf kind d ≡ readPlain kind d
+  pub not-plain : (kind ≡ 0x05 → ⊥) → (kind ≡ 0x06 → ⊥) → (kind ≡ 0x0D → ⊥) → (kind ≡ 0x11 → ⊥) → (kind ≡ 0x13 → ⊥) → (kind ≡ 0x21 → ⊥) → (kind ≡ 0x22 → ⊥)
+      → messageOf kind d ≡ withData kind d
   unfolding messageOf
-  is-plain e = simp e
+  not-plain a b c f g h k =
+      simp (ne-eqb kind 0x05 a, ne-eqb kind 0x06 b, ne-eqb kind 0x0D c, ne-eqb kind 0x11 f, ne-eqb kind 0x13 g, ne-eqb kind 0x21 h, ne-eqb kind 0x22 k)
 
-  pub unknown : plainListed kind ≡ false → (kind ≡ 0x20 → ⊥) → (kind ≡ 0x15 → ⊥) → (kind ≡ 0x16 → ⊥) → (kind ≡ 0x23 → ⊥) → (kind ≡ 0x25 → ⊥)
-      → (kind ≡ 0x0E → ⊥) → (kind ≡ 0x0F → ⊥) → messageOf kind d ≡ refused 6
-  unfolding messageOf
-  unknown e a b c f g h k =
-      simp (e, ne-eqb kind 0x20 a, ne-eqb kind 0x15 b, ne-eqb kind 0x16 c, ne-eqb kind 0x23 f, ne-eqb kind 0x25 g, ne-eqb kind 0x0E h, ne-eqb kind 0x0F k)
+  pub unknown : (kind ≡ 0x20 → ⊥) → (kind ≡ 0x15 → ⊥) → (kind ≡ 0x16 → ⊥) → (kind ≡ 0x23 → ⊥) → (kind ≡ 0x25 → ⊥) → (kind ≡ 0x0E → ⊥) → (kind ≡ 0x0F → ⊥)
+      → withData kind d ≡ refused 6
+  unfolding withData
+  unknown a b c f g h k =
+      simp (ne-eqb kind 0x20 a, ne-eqb kind 0x15 b, ne-eqb kind 0x16 c, ne-eqb kind 0x23 f, ne-eqb kind 0x25 g, ne-eqb kind 0x0E h, ne-eqb kind 0x0F k)

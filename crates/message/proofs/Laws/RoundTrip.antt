@@ -19,14 +19,15 @@ use Rattle.message.specs.Items.{zones, zonesListed, words, texts}
 use Rattle.message.specs.Log.{logListed, logOf, readLog}
 use Rattle.message.specs.declared.command.Command.{Command}
 use Rattle.message.specs.declared.log.LogEntry.{LogEntry}
+use Rattle.message.specs.declared.message.Fixed.{Fixed}
 use Rattle.message.specs.declared.message.Fixed.the-variants as F
-use Rattle.message.specs.Message.{Message, fixed, zoneStatus, events, messageStatus, messageOf, readMessage, writeMessage, plainListed, plainOf, statusLength}
+use Rattle.message.specs.Message.{Message, fixed, zoneStatus, events, messageStatus, messageOf, readMessage, writeMessage, withData, statusLength}
 use Rattle.message.specs.Typed.{commandBytes, logBytes, fixedFrame, zoneBytes, eventBytes, textBytes, writeFixed, write}
 use Rattle.message.proofs.Laws.Decode.{fixed-back, zones-back, events-back, texts-back}
 use Rattle.message.proofs.Laws.Checked.{passes, never}
 use Rattle.message.proofs.Laws.Lists.{texts-length}
 use Rattle.message.proofs.Laws.Accepts.{every-type, every-plain, every-login, every-request, every-zones, every-events, every-texts, every-log, every-command}
-use Rattle.message.proofs.Laws.Encode.{none-of, leading, two-of, four-of, ten-of, which-plain, command-encoded, word-apart, events-encoded, zones-encoded, texts-encoded}
+use Rattle.message.proofs.Laws.Encode.{none-of, leading, two-of, four-of, ten-of, command-encoded, word-apart, events-encoded, zones-encoded, texts-encoded}
 
 -- a written type and data bytes are read as what they carry
 reads-written : (kind : ℕ) (d s : List ℕ) → writeMessage kind d ≡ accepted s → readMessage s ≡ messageOf kind d
@@ -53,7 +54,7 @@ same-read kind d s m e back =
     reads-written kind d s e ∙ c .1 ∙ ap accepted (back (c .0) (c .1))
 
 pub read-after-write : (m : Message) (s : List ℕ) → write m ≡ accepted s → readMessage s ≡ accepted m
-unfolding write writeFixed messageOf plainListed
+unfolding write writeFixed messageOf withData
 read-after-write (fixed f) s e = same-read (fixedFrame f .kind) (fixedFrame f .bytes) s (fixed f) e (fixed-back f)
 read-after-write (zoneStatus zs) s e =
     same-read 0x16 (zoneBytes zs) s (zoneStatus zs) e (every-zones (λ r. r ≡ zoneStatus zs) (zoneBytes zs) (λ _ _. ap zoneStatus (zones-back zs)))
@@ -72,12 +73,9 @@ module _ (kind : ℕ) (d : List ℕ) (bytes : T (areBytes d)) where
   abbrev Back : Message → Type 0
   Back m = write m ≡ writeMessage kind d
 
-  plain-back : plainListed kind ≡ true → length d ≡ 0 → Back (fixed (plainOf kind))
-  unfolding write writeFixed plainOf
-  plain-back listed none =
-      let nil : [] ≡ d = sym (none-of d none) in
-      which-plain (λ k. write (fixed (plainOf k)) ≡ writeMessage k d) (ap (writeMessage 0x05) nil) (ap (writeMessage 0x06) nil) (ap (writeMessage 0x0D) nil)
-      (ap (writeMessage 0x11) nil) (ap (writeMessage 0x13) nil) (ap (writeMessage 0x21) nil) (ap (writeMessage 0x22) nil) kind listed
+  plain-back : (f : Fixed) → fixedFrame f ≡ record { kind = kind; bytes = [] } → length d ≡ 0 → Back (fixed f)
+  unfolding write writeFixed
+  plain-back f is none = ap (λ (x : Frame). writeMessage (x .kind) (x .bytes)) is ∙ ap (writeMessage kind) (sym (none-of d none))
 
   login-back : kind ≡ 0x20 → length d ≡ 4 → Back (fixed (F.Login (getD d 0 0) (getD d 1 0) (getD d 2 0) (getD d 3 0)))
   unfolding write writeFixed
@@ -142,7 +140,7 @@ module _ (kind : ℕ) (d : List ℕ) (bytes : T (areBytes d)) where
 
   written-back : (m : Message) → messageOf kind d ≡ accepted m → Back m
   written-back =
-      every-type Back kind d (λ l. every-plain Back kind d (plain-back l)) (λ is. every-login Back d (login-back is))
+      every-type Back kind d (λ f is. every-plain Back f d (plain-back f is)) (λ is. every-login Back d (login-back is))
       (λ is. every-request Back d (request-back is)) (λ is. every-zones Back d (zones-written is)) (λ is. every-events Back d (events-written is))
       (λ is. every-texts Back d (texts-written is)) (λ is. every-log Back d (log-written is)) (λ is. every-command Back d (command-written is))
 

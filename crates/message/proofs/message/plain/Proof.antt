@@ -1,4 +1,3 @@
-use borrow.Author.Needs.{needs}
 use Rattle.message.proofs.Laws.Decided.{decided}
 use Rattle.message.proofs.message.plain.Statement.{statement}
 use Rattle.message.proofs.message.plain.Tie as tie
@@ -8,12 +7,9 @@ returns : tie.Need-returns
 unfolding readPlain
 returns c = search decided
 
-plain-of-requires : tie.Need-plain-of-requires
-plain-of-requires c κs = search needs
-
 returns-2 : tie.Need-returns-2
 unfolding readPlain
 returns-2 c = search decided
 
 pub plain-spec : {M : Type 1} → statement M
-plain-spec = tie.close (tie.spec returns plain-of-requires returns-2)
+plain-spec = tie.close (tie.spec returns returns-2)
