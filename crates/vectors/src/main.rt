@@ -69,6 +69,9 @@ fn answer_model(line: &[u8], bytes: &[u8]) {
     if names(line, b"cost") {
         model::cost(bytes);
     }
+    if names(line, b"tally") {
+        model::tally(bytes);
+    }
 }
 
 // The answers of the X-10 calls.
