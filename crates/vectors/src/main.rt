@@ -114,6 +114,7 @@ fn run(lines: &[u8]) {
     }
 }
 
+// At most 65,536 bytes are read.
 fn main() {
     let mut lines = io::large_buffer();
     let n = io::read_full(STDIN, &mut lines);

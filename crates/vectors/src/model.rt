@@ -1,4 +1,4 @@
-// The model thermostat, temperatures and cost words.
+// The model thermostat, temperatures, cost words and the tally.
 use crate::output;
 use crate::output::small;
 use crate::output::text;
