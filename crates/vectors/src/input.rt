@@ -1,5 +1,5 @@
 // Reading the vectors: lines, the names that they start with, and their digits.
-ghost use Prim.Native.Nat.{_<_, _≤_};
+ghost use Prim.Native.Nat.{_≤_};
 ghost use lib.ListN.{length};
 ghost use Rattle.io.specs.Counts.{Counts};
 
@@ -40,9 +40,7 @@ pub(crate) fn starts(line: &[u8], name: &[u8]) -> bool {
 }
 
 // The value of a hex digit. Letters are capitals, so that a call's name has no digits.
-fn digit(c: u8) -> u8
-    ensures { λ r. ⌜ r ≤ 16 ⌝ }
-{
+fn digit(c: u8) -> u8 {
     if c < b'0' {
         return NO_DIGIT;
     }

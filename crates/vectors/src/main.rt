@@ -69,6 +69,9 @@ fn answer_model(line: &[u8], bytes: &[u8]) {
     if names(line, b"cost") {
         model::cost(bytes);
     }
+    if names(line, b"tally") {
+        model::tally(bytes);
+    }
 }
 
 // The answers of the X-10 calls.
@@ -111,6 +114,7 @@ fn run(lines: &[u8]) {
     }
 }
 
+// At most 65,536 bytes are read.
 fn main() {
     let mut lines = io::large_buffer();
     let n = io::read_full(STDIN, &mut lines);

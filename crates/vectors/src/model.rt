@@ -1,9 +1,15 @@
-// The model thermostat, temperatures and cost words.
+// The model thermostat, temperatures, cost words and the tally.
 use crate::output;
 use crate::output::small;
 use crate::output::text;
 use answer::Written;
+use tally::Added;
 use tally::Cost;
+use tally::Tally;
+ghost use Prim.Native.Nat.{_≤_};
+ghost use lib.ListN.{length};
+ghost use mathlib.Core.Path.{_≡_};
+ghost use Rattle.tally.specs.Total.{nextTotal, addedOf};
 
 const REGISTERS: usize = 256;
 
@@ -128,6 +134,12 @@ pub(crate) fn temperatures() {
     temperature(LAST_BYTE);
 }
 
+fn show_word(w: u16) {
+    text(b" word ");
+    output::number(w as u64);
+    text(b",");
+}
+
 fn word(hi: u8, lo: u8) -> u16 {
     hi as u16 * 256 + lo as u16
 }
@@ -138,9 +150,7 @@ pub(crate) fn cost(bytes: &[u8]) {
         return;
     }
     let w = word(bytes[0], bytes[1]);
-    text(b" word ");
-    output::number(w as u64);
-    text(b",");
+    show_word(w);
     match tally::convert(w) {
         Cost::Millionths(v) => {
             text(b" millionths ");
@@ -148,4 +158,41 @@ pub(crate) fn cost(bytes: &[u8]) {
         }
         Cost::Refused(r) => output::refused(r),
     }
+}
+
+// The answer of a tally with this total to a word.
+fn tallied(total: u64, word: u16) -> Added
+    ensures { λ r. ⌜ addedOf r ≡ nextTotal total word ⌝ }
+{
+    let mut t = Tally { total };
+    tally::add(&mut t, word)
+}
+
+// A number of eight bytes, high byte first.
+fn long(bytes: &[u8]) -> u64
+    requires { ⌜ 8 ≤ length (now bytes) ⌝ }
+{
+    let hi = word(bytes[0], bytes[1]) as u64 * 65536 + word(bytes[2], bytes[3]) as u64;
+    let lo = word(bytes[4], bytes[5]) as u64 * 65536 + word(bytes[6], bytes[7]) as u64;
+    hi * 0x1_0000_0000 + lo
+}
+
+fn show_added(a: Added) {
+    match a {
+        Added::Total(n) => {
+            text(b" total ");
+            output::number(n);
+        }
+        Added::Refused(r) => output::refused(r),
+    }
+}
+
+// A total of eight bytes, then a cost word.
+pub(crate) fn tally(bytes: &[u8]) {
+    if bytes.len() < 10 {
+        return;
+    }
+    let w = word(bytes[8], bytes[9]);
+    show_word(w);
+    show_added(tallied(long(bytes), w));
 }
