@@ -8,7 +8,7 @@ use lib.ListN.{length}
 use borrow.Author.Tests.{eq-eqb, le-ltb}
 use Rattle.crc.specs.Crc.{crc, feed}
 use Rattle.link.specs.Frame.{readFrame, readBody}
-use Rattle.message.specs.Message.{readMessage, messageOf, plainListed, plainOf, readPlain}
+use Rattle.message.specs.Message.{readMessage, messageOf, withData, readPlain}
 use Rattle.omnistat.specs.Frame.{frame, total, bytesOf}
 use Rattle.omnistat.specs.Message.{asMessage}
 use Rattle.omnistat.specs.Omnistat.{read}
@@ -29,7 +29,7 @@ _and_ : {A B : Type 0} → A → B → A × B
 a and b = (a, b)
 
 pub marked-examples : Marked-examples
-unfolding Holds crc feed readFrame readBody readMessage messageOf plainListed plainOf readPlain
+unfolding Holds crc feed readFrame readBody readMessage messageOf withData readPlain
     read frame total bytesOf asMessage runAllowed listed readOnly allowed stored allSettable sentBy mapAfter step
     cost tooLarge millionths power readPattern writePattern readKey standard spelled codeAt indexOf houseCode unitCode
 marked-examples map room whole fits =

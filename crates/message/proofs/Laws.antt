@@ -1,6 +1,5 @@
 pub mod Accepts
 pub mod Checked
-pub mod Decided
 pub mod Decode
 pub mod Duration
 pub mod Encode

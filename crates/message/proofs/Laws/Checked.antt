@@ -8,6 +8,7 @@ use lib.Dec.{eqb}
 use lib.ListN.{length}
 use borrow.Author.Tests.{eq-eqb}
 use Rattle.answer.specs.Answer.{Outcome, refused, accepted, refuseIf, onAccepted}
+use Rattle.answer.proofs.Laws.Test.{on-accepted, still-refused}
 
 module _ {A : Type 0} (n : ℕ) (later : Outcome A) {t listed : Bool} (is : t ≡ listed) where
   pub refuses : t ≡ false → refused n ≡ refuseIf (not listed) n later
@@ -36,12 +37,12 @@ behind-check f false n later = refl
 -- what stands behind an answer that was mapped
 pub was-accepted : {A B : Type 0} (f : A → B) (o : Outcome A) (b : B) → accepted b ≡ onAccepted f o
     → (a : A) × (o ≡ accepted a) × (b ≡ f a)
-was-accepted f (refused n) b e = let z : _≡_ {A = ℕ} 0 1 = cc in let no : ⊥ = omega arith in absurd no
-was-accepted f (accepted a) b e = (a, refl, cc)
+was-accepted f o b e =
+    let r = on-accepted f o b (sym e) in
+    (r .0, r .1, sym (r .2))
 
 pub was-refused : {A B : Type 0} (f : A → B) (o : Outcome A) (n : ℕ) → refused n ≡ onAccepted f o → o ≡ refused n
-was-refused f (refused m) n e = cc
-was-refused f (accepted a) n e = let z : _≡_ {A = ℕ} 0 1 = cc in let no : ⊥ = omega arith in absurd no
+was-refused f o n e = still-refused f o n (sym e)
 
 -- nothing follows from a test that fails and holds
 pub never : {G : Type 0} → _≡_ {A = Bool} false true → G

@@ -5,7 +5,7 @@ use lib.ListN.{getD, length}
 use mathlib.Core.Path.{refl, ap, _∙_}
 use native.Mathlib.Omega.{arith}
 use Rattle.message.proofs.Laws.Checked.{passes}
-use Rattle.message.proofs.Laws.Decided.{decided}
+use Rattle.answer.proofs.Laws.Decided.{decided}
 use Rattle.message.proofs.command.read.Statement.{statement}
 use Rattle.message.proofs.command.read.Tie as tie
 use Rattle.message.specs.Command.{checkedCommand, readCommand}

@@ -1,4 +1,4 @@
-use Rattle.message.proofs.Laws.Decided.{decided}
+use Rattle.answer.proofs.Laws.Decided.{decided}
 use Rattle.message.proofs.item.of_kind.Statement.{statement}
 use Rattle.message.proofs.item.of_kind.Tie as tie
 

@@ -1,4 +1,4 @@
-use Rattle.message.proofs.Laws.Decided.{decided}
+use Rattle.answer.proofs.Laws.Decided.{decided}
 use Rattle.message.proofs.items.condition_of.Statement.{statement}
 use Rattle.message.proofs.items.condition_of.Tie as tie
 

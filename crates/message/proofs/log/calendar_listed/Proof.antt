@@ -1,4 +1,4 @@
-use Rattle.message.proofs.Laws.Decided.{decided}
+use Rattle.answer.proofs.Laws.Decided.{decided}
 use Rattle.message.proofs.log.calendar_listed.Statement.{statement}
 use Rattle.message.proofs.log.calendar_listed.Tie as tie
 use Rattle.message.specs.Log.{calendarListed}

@@ -6,7 +6,7 @@ use mathlib.Core.Path.{refl, ap, _∙_}
 use native.Mathlib.Omega.{arith}
 use Rattle.answer.specs.Answer.{accepted, refuseIf}
 use Rattle.message.proofs.Laws.Checked.{refuses, passes}
-use Rattle.message.proofs.Laws.Decided.{decided}
+use Rattle.answer.proofs.Laws.Decided.{decided}
 use Rattle.message.proofs.log.read.Statement.{statement}
 use Rattle.message.proofs.log.read.Tie as tie
 use Rattle.message.specs.Log.{readLog, logOf, logListed}

@@ -3,7 +3,7 @@ use borrow.Author.Needs.{needs}
 use borrow.Author.Tests.{eq-eqb, le-ltb}
 use lib.ListN.{length}
 use native.Mathlib.Omega.{arith}
-use Rattle.message.proofs.Laws.Decided.{decided}
+use Rattle.answer.proofs.Laws.Decided.{decided}
 use Rattle.message.proofs.Laws.Lists.{pairs-length}
 use Rattle.message.proofs.message.events.Statement.{statement}
 use Rattle.message.proofs.message.events.Tie as tie

@@ -2,7 +2,7 @@ use borrow.Author.Needs.{needs}
 use lib.ListN.{getD}
 use native.Mathlib.Omega.{arith}
 use Rattle.message.proofs.Laws.Checked.{fields-refused, fields-taken}
-use Rattle.message.proofs.Laws.Decided.{decided}
+use Rattle.answer.proofs.Laws.Decided.{decided}
 use Rattle.message.proofs.message.login.Statement.{statement}
 use Rattle.message.proofs.message.login.Tie as tie
 use Rattle.message.specs.Message.{fixed, readLogin, counted}

@@ -1,7 +1,7 @@
 use borrow.Author.Needs.{needs}
 use mathlib.Core.Path.{refl, _∙_}
 use native.Mathlib.Omega.{arith}
-use Rattle.message.proofs.Laws.Decided.{decided}
+use Rattle.answer.proofs.Laws.Decided.{decided}
 use Rattle.message.proofs.Laws.Kinds.{status-read}
 use Rattle.message.proofs.message.message_status.Statement.{statement}
 use Rattle.message.proofs.message.message_status.Tie as tie

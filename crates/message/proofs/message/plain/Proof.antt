@@ -1,4 +1,4 @@
-use Rattle.message.proofs.Laws.Decided.{decided}
+use Rattle.answer.proofs.Laws.Decided.{decided}
 use Rattle.message.proofs.message.plain.Statement.{statement}
 use Rattle.message.proofs.message.plain.Tie as tie
 use Rattle.message.specs.Message.{readPlain}

@@ -1,5 +1,5 @@
 use borrow.Author.Needs.{needs}
-use Rattle.message.proofs.Laws.Decided.{decided}
+use Rattle.answer.proofs.Laws.Decided.{decided}
 use Rattle.message.proofs.message.status_of.Statement.{statement}
 use Rattle.message.proofs.message.status_of.Tie as tie
 

@@ -1,6 +1,6 @@
 use borrow.Author.Needs.{needs}
 use native.Mathlib.Omega.{arith}
-use Rattle.message.proofs.Laws.Decided.{decided}
+use Rattle.answer.proofs.Laws.Decided.{decided}
 use Rattle.message.proofs.Laws.Kinds.{zones-refused, zones-accepted}
 use Rattle.message.proofs.message.zone_status.Statement.{statement}
 use Rattle.message.proofs.message.zone_status.Tie as tie

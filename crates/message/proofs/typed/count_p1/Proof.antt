@@ -1,4 +1,4 @@
-use Rattle.message.proofs.Laws.Decided.{decided}
+use Rattle.answer.proofs.Laws.Decided.{decided}
 use Rattle.message.proofs.typed.count_p1.Statement.{statement}
 use Rattle.message.proofs.typed.count_p1.Tie as tie
 
