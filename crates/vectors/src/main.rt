@@ -2,6 +2,7 @@
 // call's answer behind it. A line that starts with no such name, as a comment, is printed as it is.
 mod captures; // the listing
 mod input; // lines, names and digits
+mod items; // the items of Omni-Link messages
 mod model; // the model thermostat, temperatures, cost words and the tally
 mod omnilink; // Omni-Link frames and messages
 mod omnistat2; // Omnistat2 messages
