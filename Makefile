@@ -28,7 +28,7 @@ $(LIB): crates.txt $(shell find crates -name '*.rt' -o -name '*.antt')
 
 ctest: $(TESTS)
 
-target/tests/%: tests/c/%.c tests/c/check.h tests/c/crc.h include/gateway.h $(LIB)
+target/tests/%: tests/c/%.c tests/c/check.h tests/c/frame.h include/gateway.h $(LIB)
 	@mkdir -p $(@D)
 	$(CC) $(CFLAGS) -o $@ $< $(LIB)
 
@@ -46,7 +46,7 @@ SECONDS = 60
 fuzz: $(LIB)
 	@$(OUTSIDE) --seconds $(SECONDS)
 
-target/bench/%: bench/%.c bench/bench.h include/gateway.h $(LIB)
+target/bench/%: bench/%.c bench/bench.h bench/frame.h include/gateway.h $(LIB)
 	@mkdir -p $(@D)
 	$(CC) $(CFLAGS) -O3 -o $@ $< $(LIB) -lpthread
 

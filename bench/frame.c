@@ -1,24 +1,12 @@
 /* omnilink_frame_read beside the same table algorithm in C, on frames of 5, 21 and 69 bytes. */
 #include "bench.h"
+#include "frame.h"
 #include "gateway.h"
-
-static uint16_t table[256];
 
 PLAIN uint64_t plain_read(const uint8_t *s, size_t n)
 {
-    if (n == 0) return 1;
-    if (s[0] != 0x5A) return 2;
-    if (n == 1) return 1;
-    unsigned l = s[1];
-    if (l == 0 || l > 0x41) return 3;
-    if (n < l + 4) return 1;
-    if (n > l + 4) return 4;
-    uint16_t crc = 0;
-    for (size_t i = 1; i < l + 2; i++) {
-        crc = (uint16_t)(crc >> 8 ^ table[(crc ^ s[i]) & 0xFF]);
-    }
-    if ((s[l + 2] | s[l + 3] << 8) != crc) return 5;
-    return (uint64_t)s[2] << 8 | (uint64_t)(l - 1) << 16;
+    unsigned refusal = frame_refusal(s, n);
+    return refusal ? refusal : (uint64_t)s[2] << 8 | (uint64_t)(s[1] - 1) << 16;
 }
 
 static uint8_t frame[69];
@@ -44,13 +32,7 @@ static uint64_t plain(size_t times)
 
 int main(void)
 {
-    for (unsigned n = 0; n < 256; n++) {
-        unsigned r = n;
-        for (int i = 0; i < 8; i++) {
-            r = r & 1 ? r >> 1 ^ 0xA001 : r >> 1;
-        }
-        table[n] = (uint16_t)r;
-    }
+    fill_table();
     static const size_t sizes[] = {5, 21, 69};
     for (int k = 0; k < 3; k++) {
         uint8_t data[64];

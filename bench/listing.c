@@ -1,23 +1,17 @@
 /* capture_listing beside a plain listing in C, which measures the text and then writes it, on captures of 4,096 bytes: with room
    for any listing, where ours does not measure, and with no more room than needed. */
 #include "bench.h"
+#include "frame.h"
 #include "gateway.h"
 
 enum { CAPTURE = 4096, ROOM = 8 * CAPTURE + 25 };
-
-static uint16_t table[256];
 
 /* The count of bytes of the frame at s, or 0. */
 static inline size_t plain_frame(const uint8_t *s, size_t left)
 {
     if (s[0] != 0x5A || left < 2) return 0;
-    unsigned l = s[1];
-    if (l == 0 || l > 0x41 || left < l + 4) return 0;
-    uint16_t crc = 0;
-    for (size_t i = 1; i < l + 2; i++) {
-        crc = (uint16_t)(crc >> 8 ^ table[(crc ^ s[i]) & 0xFF]);
-    }
-    return (s[l + 2] | s[l + 3] << 8) == crc ? l + 4 : 0;
+    size_t size = s[1] + 4u;
+    return size <= left && frame_refusal(s, size) == 0 ? size : 0;
 }
 
 static inline size_t plain_digits(size_t n) { return n < 10 ? 1 : n < 100 ? 2 : n < 1000 ? 3 : 4; }
@@ -116,13 +110,7 @@ static void row(const char *capture_of, size_t times)
 
 int main(void)
 {
-    for (unsigned n = 0; n < 256; n++) {
-        unsigned r = n;
-        for (int i = 0; i < 8; i++) {
-            r = r & 1 ? r >> 1 ^ 0xA001 : r >> 1;
-        }
-        table[n] = (uint16_t)r;
-    }
+    fill_table();
     for (size_t i = 0; i < CAPTURE; i++) {
         capture[i] = (uint8_t)(i * 29 + i / 7);
     }

@@ -1,24 +1,7 @@
 /* omnilink_message_read beside the same reading in C: an acknowledge, a command and a zone status of 32 zones. */
 #include "bench.h"
+#include "frame.h"
 #include "gateway.h"
-
-static uint16_t table[256];
-
-static inline unsigned frame_refusal(const uint8_t *s, size_t n)
-{
-    if (n == 0) return 1;
-    if (s[0] != 0x5A) return 2;
-    if (n == 1) return 1;
-    unsigned l = s[1];
-    if (l == 0 || l > 0x41) return 3;
-    if (n < l + 4) return 1;
-    if (n > l + 4) return 4;
-    uint16_t crc = 0;
-    for (size_t i = 1; i < l + 2; i++) {
-        crc = (uint16_t)(crc >> 8 ^ table[(crc ^ s[i]) & 0xFF]);
-    }
-    return (s[l + 2] | s[l + 3] << 8) != crc ? 5 : 0;
-}
 
 static inline int command_listed(const uint8_t *d)
 {
@@ -127,13 +110,7 @@ static void row(const char *name, uint8_t type, const uint8_t *data, size_t n)
 
 int main(void)
 {
-    for (unsigned n = 0; n < 256; n++) {
-        unsigned r = n;
-        for (int i = 0; i < 8; i++) {
-            r = r & 1 ? r >> 1 ^ 0xA001 : r >> 1;
-        }
-        table[n] = (uint16_t)r;
-    }
+    fill_table();
     static const uint8_t command[4] = {1, 130, 0x00, 0x2A};
     uint8_t zones[64];
     for (size_t i = 0; i < sizeof zones; i++) {

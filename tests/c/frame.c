@@ -1,33 +1,13 @@
 /* Omni-Link frames: each refusal at its edge, the frames that document 000 prints, writing into rooms from 0 up. */
 #include "check.h"
-#include "crc.h"
+#include "frame.h"
 #include "gateway.h"
 
-/* Document 01's order of checks, written out. */
+/* What the reader answers, packed. */
 static uint64_t plain_read(const uint8_t *s, size_t n)
 {
-    if (n == 0) return 1;
-    if (s[0] != 0x5A) return 2;
-    if (n == 1) return 1;
-    unsigned l = s[1];
-    if (l == 0 || l > 0x41) return 3;
-    if (n < l + 4) return 1;
-    if (n > l + 4) return 4;
-    unsigned crc = crc_of(s + 1, l + 1);
-    if (s[l + 2] != (crc & 0xFF) || s[l + 3] != crc >> 8) return 5;
-    return (uint64_t)s[2] << 8 | (uint64_t)(l - 1) << 16;
-}
-
-static size_t plain_write(uint8_t type, const uint8_t *data, size_t n, uint8_t *out)
-{
-    out[0] = 0x5A;
-    out[1] = (uint8_t)(n + 1);
-    out[2] = type;
-    memcpy(out + 3, data, n);
-    unsigned crc = crc_of(out + 1, n + 2);
-    out[n + 3] = (uint8_t)crc;
-    out[n + 4] = (uint8_t)(crc >> 8);
-    return n + 5;
+    unsigned refusal = frame_refusal(s, n);
+    return refusal ? refusal : (uint64_t)s[2] << 8 | (uint64_t)(s[1] - 1) << 16;
 }
 
 static struct lent input, given, output;
@@ -85,7 +65,7 @@ static void damaged_frames(void)
         for (size_t i = 0; i < n; i++) {
             data[i] = (uint8_t)(i * 31 + n * 7);
         }
-        size_t size = plain_write((uint8_t)(n * 5 + 1), data, n, frame);
+        size_t size = frame_write((uint8_t)(n * 5 + 1), data, n, frame);
         SAME(read_lent(frame, size), (uint64_t)frame[2] << 8 | (uint64_t)n << 16);
         for (size_t bit = 0; bit < size * 8; bit++) {
             frame[bit / 8] ^= (uint8_t)(1 << bit % 8);
@@ -116,7 +96,7 @@ static void writing(void)
                 CHECK(kept_from(&output, 0));
             } else {
                 SAME(r, (uint64_t)(n + 5) << 8);
-                CHECK(memcmp(out, want, plain_write((uint8_t)(n + 3), data, n, want)) == 0);
+                CHECK(memcmp(out, want, frame_write((uint8_t)(n + 3), data, n, want)) == 0);
                 CHECK(kept_from(&output, n + 5));
                 SAME(omnilink_frame_read(out, n + 5), (uint64_t)(n + 3) << 8 | (uint64_t)n << 16);
             }

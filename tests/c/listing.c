@@ -2,7 +2,7 @@
    candidates, rooms around the size needed, and the stack that a capture of the shortest frames needs. */
 #define _POSIX_C_SOURCE 200809L
 #include "check.h"
-#include "crc.h"
+#include "frame.h"
 #include "gateway.h"
 #include <pthread.h>
 
@@ -11,22 +11,8 @@ enum { CAPTURE = 4096, ROOM = 8 * CAPTURE + 25 };
 /* The count of bytes of the whole frame that starts here, or 0. */
 static size_t plain_frame(const uint8_t *s, size_t left)
 {
-    if (left < 5 || s[0] != 0x5A || s[1] == 0 || s[1] > 0x41 || left < s[1] + 4u) return 0;
-    size_t l = s[1];
-    unsigned crc = crc_of(s + 1, l + 1);
-    return s[l + 2] == (crc & 0xFF) && s[l + 3] == crc >> 8 ? l + 4 : 0;
-}
-
-static size_t plain_write(uint8_t type, const uint8_t *data, size_t n, uint8_t *out)
-{
-    out[0] = 0x5A;
-    out[1] = (uint8_t)(n + 1);
-    out[2] = type;
-    memcpy(out + 3, data, n);
-    unsigned crc = crc_of(out + 1, n + 2);
-    out[n + 3] = (uint8_t)crc;
-    out[n + 4] = (uint8_t)(crc >> 8);
-    return n + 5;
+    size_t size = left < 2 ? 0 : s[1] + 4u;
+    return size != 0 && size <= left && frame_refusal(s, size) == 0 ? size : 0;
 }
 
 /* Document 01's rule, written out: the size of the text. */
@@ -91,9 +77,9 @@ static size_t some_frame(size_t at, size_t len)
     }
     /* now and then the data holds a whole frame of its own */
     if (n >= 5 && any(2) == 0) {
-        plain_write((uint8_t)any(256), NULL, 0, data + any((unsigned)n - 4));
+        frame_write((uint8_t)any(256), NULL, 0, data + any((unsigned)n - 4));
     }
-    size_t size = plain_write((uint8_t)any(256), data, n, frame);
+    size_t size = frame_write((uint8_t)any(256), data, n, frame);
     if (any(4) == 0) {
         frame[any((unsigned)size)] ^= (uint8_t)(1u << any(8));
     }
@@ -143,7 +129,7 @@ static void cut_off(void)
 {
     for (size_t n = 0; n <= 64; n++) {
         memset(capture, 0x5A, 3);
-        size_t size = plain_write((uint8_t)n, before, n, capture + 3);
+        size_t size = frame_write((uint8_t)n, before, n, capture + 3);
         for (size_t len = 0; len <= 3 + size; len++) {
             listed(len, ROOM);
         }
@@ -162,11 +148,11 @@ static void longest(void)
     listed(CAPTURE, ROOM);
     for (size_t i = 0; i + 6 <= CAPTURE; i += 6) {
         capture[i] = 0xFF;
-        plain_write(0xFF, NULL, 0, capture + i + 1);
+        frame_write(0xFF, NULL, 0, capture + i + 1);
     }
     listed(CAPTURE, ROOM);
     for (size_t i = 0; i + 5 <= CAPTURE; i += 5) {
-        plain_write((uint8_t)i, NULL, 0, capture + i);
+        frame_write((uint8_t)i, NULL, 0, capture + i);
     }
     listed(CAPTURE, ROOM);
 }
@@ -218,7 +204,7 @@ int main(void)
     stack_stays_small("five-byte frames");
     for (size_t i = 0; i + 6 <= CAPTURE; i += 6) {
         capture[i] = 0xFF;
-        plain_write(0xFF, NULL, 0, capture + i + 1);
+        frame_write(0xFF, NULL, 0, capture + i + 1);
     }
     stack_stays_small("a noise byte before each five-byte frame");
     for (size_t i = 0; i < CAPTURE; i++) {

@@ -1,34 +1,8 @@
 /* Omni-Link messages: every type, every refusal, both edges of every range and every bit of the packed fields, against
    document 01's section "Omni-Link messages" written out in C. */
 #include "check.h"
-#include "crc.h"
+#include "frame.h"
 #include "gateway.h"
-
-/* The frame: document 01, "Omni-Link frames". */
-static size_t framed(uint8_t type, const uint8_t *data, size_t n, uint8_t *out)
-{
-    out[0] = 0x5A;
-    out[1] = (uint8_t)(n + 1);
-    out[2] = type;
-    memcpy(out + 3, data, n);
-    unsigned crc = crc_of(out + 1, n + 2);
-    out[n + 3] = (uint8_t)crc;
-    out[n + 4] = (uint8_t)(crc >> 8);
-    return n + 5;
-}
-
-static unsigned frame_refusal(const uint8_t *s, size_t n)
-{
-    if (n == 0) return 1;
-    if (s[0] != 0x5A) return 2;
-    if (n == 1) return 1;
-    unsigned l = s[1];
-    if (l == 0 || l > 0x41) return 3;
-    if (n < l + 4) return 1;
-    if (n > l + 4) return 4;
-    unsigned crc = crc_of(s + 1, l + 1);
-    return s[l + 2] != (crc & 0xFF) || s[l + 3] != crc >> 8 ? 5 : 0;
-}
 
 static int within(unsigned n, unsigned least, unsigned most) { return least <= n && n <= most; }
 
@@ -231,7 +205,7 @@ static void types_and_lengths(void)
         for (size_t n = 0; n <= 64; n++) {
             uint8_t d[64];
             accepted_data((uint8_t)type, n, d);
-            size_t size = framed((uint8_t)type, d, n, frame);
+            size_t size = frame_write((uint8_t)type, d, n, frame);
             if (memchr(types, (int)type, sizeof types)) {
                 all_same(frame, size);
             } else {
@@ -261,7 +235,7 @@ static void fields(void)
                 uint8_t kept = d[i];
                 for (unsigned v = 0; v < 256; v++) {
                     d[i] = (uint8_t)v;
-                    size_t size = framed(types[t], d, n, frame);
+                    size_t size = frame_write(types[t], d, n, frame);
                     read_same(frame, size);
                     item_same(frame, size, types[t] == 0x0E ? i - i / 9 : types[t] == 0x25 ? 4 * i + v % 4 - 4 : i / 2);
                 }
@@ -276,7 +250,7 @@ static void zone_requests(void)
     for (unsigned first = 0; first < 256; first++) {
         for (unsigned last = 0; last < 256; last++) {
             uint8_t d[2] = {(uint8_t)first, (uint8_t)last};
-            SAME(omnilink_message_read(frame, framed(0x15, d, 2, frame)), 1 <= first && first <= last ? 0x1500 : 8);
+            SAME(omnilink_message_read(frame, frame_write(0x15, d, 2, frame)), 1 <= first && first <= last ? 0x1500 : 8);
         }
     }
 }
@@ -288,7 +262,7 @@ static void commands(void)
         for (unsigned p1 = 0; p1 < 256; p1++) {
             for (size_t k = 0; k < sizeof p2s / sizeof p2s[0]; k++) {
                 uint8_t d[4] = {(uint8_t)command, (uint8_t)p1, (uint8_t)(p2s[k] >> 8), (uint8_t)p2s[k]};
-                size_t size = framed(0x0F, d, 4, frame);
+                size_t size = frame_write(0x0F, d, 4, frame);
                 SAME(omnilink_command(frame, size), plain_command(frame, size));
                 SAME(omnilink_message_read(frame, size), command_listed(d) ? 0x0F00 : 8);
             }
@@ -301,14 +275,14 @@ static void commands(void)
     for (size_t k = 0; k < sizeof edges / sizeof edges[0]; k++) {
         for (uint8_t on = 0; on < 2; on++) {
             uint8_t d[4] = {on, edges[k].p1, 0x12, 0x34};
-            SAME(omnilink_command(frame, framed(0x0F, d, 4, frame)),
+            SAME(omnilink_command(frame, frame_write(0x0F, d, 4, frame)),
                  (uint64_t)on << 8 | edges[k].unit << 16 | edges[k].count << 24 | UINT64_C(0x1234) << 32);
         }
     }
     static const uint8_t outside[] = {100, 200, 219, 255};
     for (size_t k = 0; k < sizeof outside; k++) {
         uint8_t d[4] = {1, outside[k], 0, 1};
-        SAME(omnilink_command(frame, framed(0x0F, d, 4, frame)), 8);
+        SAME(omnilink_command(frame, frame_write(0x0F, d, 4, frame)), 8);
     }
 }
 
@@ -321,7 +295,7 @@ static void log_entries(void)
             for (unsigned v = 0; v < 256; v++) {
                 uint8_t d[10] = {7, flags[f], 12, 31, 23, 59, 0x81, 0x42, 0x12, 0x34};
                 d[i] = (uint8_t)v;
-                size_t size = framed(0x0E, d, 10, frame);
+                size_t size = frame_write(0x0E, d, 10, frame);
                 read_same(frame, size);
                 for (size_t field = 0; field <= 9; field++) {
                     SAME(omnilink_log_entry(frame, size, field), plain_log(frame, size, field));
@@ -330,11 +304,11 @@ static void log_entries(void)
         }
     }
     uint8_t d[10] = {1, 0, 0, 99, 24, 60, 0, 0, 0xAB, 0xCD};
-    size_t size = framed(0x0E, d, 10, frame);
+    size_t size = frame_write(0x0E, d, 10, frame);
     SAME(omnilink_log_entry(frame, size, 3), 99 << 8);
     SAME(omnilink_log_entry(frame, size, 8), 0xABCD00);
     SAME(omnilink_log_entry(frame, size, 9), 8);
-    SAME(omnilink_message_read(frame, framed(0x0E, d, 9, frame)), 7);
+    SAME(omnilink_message_read(frame, frame_write(0x0E, d, 9, frame)), 7);
 }
 
 /* The status of one zone in each place, by hand: every value of each field. */
@@ -345,7 +319,7 @@ static void zones(void)
             uint8_t d[64] = {0};
             d[2 * n - 2] = (uint8_t)status;
             d[2 * n - 1] = (uint8_t)(255 - status);
-            size_t size = framed(0x16, d, 2 * n, frame);
+            size_t size = frame_write(0x16, d, 2 * n, frame);
             int listed = status < 128 && status % 4 != 3 && status / 4 % 4 != 3;
             uint64_t want = (uint64_t)(status % 4) << 8 | (uint64_t)(status / 4 % 4) << 16
                             | (uint64_t)(status / 16 % 4) << 24 | (uint64_t)(status / 64) << 32 | (uint64_t)(255 - status) << 40;
@@ -359,15 +333,15 @@ static void zones(void)
 static void text_messages(void)
 {
     uint8_t d[33] = {0, 0x1B};
-    size_t size = framed(0x25, d, 5, frame);
+    size_t size = frame_write(0x25, d, 5, frame);
     SAME(omnilink_message_read(frame, size), 0x102500);
     SAME(omnilink_text_message(frame, size, 0), 0);
     SAME(omnilink_text_message(frame, size, 1), 0x000100);
     SAME(omnilink_text_message(frame, size, 2), 0x010000);
     SAME(omnilink_text_message(frame, size, 3), 0x010100);
     SAME(omnilink_text_message(frame, size, 16), 8);
-    SAME(omnilink_message_read(frame, framed(0x25, d, 17, frame)), 0x402500);
-    SAME(omnilink_message_read(frame, framed(0x25, d, 33, frame)), 0x802500);
+    SAME(omnilink_message_read(frame, frame_write(0x25, d, 17, frame)), 0x402500);
+    SAME(omnilink_message_read(frame, frame_write(0x25, d, 33, frame)), 0x802500);
 }
 
 /* The frame reader's refusals come first, in every call. */
@@ -381,7 +355,7 @@ static void frame_refusals(void)
         do {
             accepted_data(types[t], ++n % 65, d);
         } while (data_refusal(types[t], d, n % 65, &items));
-        size_t size = framed(types[t], d, n % 65, frame);
+        size_t size = frame_write(types[t], d, n % 65, frame);
         for (size_t len = 0; len <= size + 1; len++) {
             all_same(frame, len);
         }
@@ -413,7 +387,7 @@ static void write_same(uint8_t type, const uint8_t *data, size_t n, size_t room)
         return;
     }
     SAME(r, (uint64_t)(n + 5) << 8);
-    CHECK(memcmp(out, want, framed(type, data, n, want)) == 0 && kept_from(&output, n + 5));
+    CHECK(memcmp(out, want, frame_write(type, data, n, want)) == 0 && kept_from(&output, n + 5));
     SAME(omnilink_message_read(out, n + 5), (uint64_t)type << 8 | (uint64_t)items << 16);
 }
 
