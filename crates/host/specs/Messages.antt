@@ -2,22 +2,18 @@
 use Prim.Native.Nat.{ℕ}
 use mathlib.Core.List.{List, [], _∷_}
 use Rattle.answer.specs.Packed.{Field, byte, word}
-use Rattle.message.specs.Typed.{fixedFrame, conditionBits, latchedBits, armingBits, flag}
+use Rattle.message.specs.Typed.{kindOf, countOf, conditionBits, latchedBits, armingBits, flag}
 use Rattle.message.specs.declared.command.Command.{Command}
 use Rattle.message.specs.declared.command.Command.the-variants as C
 use Rattle.message.specs.declared.command.Duration.{Duration}
 use Rattle.message.specs.declared.command.Duration.the-variants as D
-use Rattle.message.specs.declared.items.TextMessage.{TextMessage}
-use Rattle.message.specs.declared.items.Zone.{Zone}
+use Rattle.message.specs.declared.lists.TextMessage.{TextMessage}
+use Rattle.message.specs.declared.lists.Zone.{Zone}
 use Rattle.message.specs.declared.message.Message.{Message}
-use Rattle.message.specs.declared.message.Message.the-variants as M
 
 -- a message: type (8), count of items (8), which is 0 but for zones, events and text messages
 abbrev pub messageFields : Message → List Field
-messageFields (M.Fixed f) = byte (fixedFrame f .kind) ∷ byte 0 ∷ []
-messageFields (M.ZoneStatus n) = byte 0x16 ∷ byte n ∷ []
-messageFields (M.Events n) = byte 0x23 ∷ byte n ∷ []
-messageFields (M.MessageStatus n) = byte 0x25 ∷ byte n ∷ []
+messageFields m = byte (kindOf m) ∷ byte (countOf m) ∷ []
 
 -- a zone: condition (8), latched alarm (8), arming (8), unacknowledged trouble (8), loop reading (8)
 abbrev pub zoneFields : Zone → List Field

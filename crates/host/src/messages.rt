@@ -5,11 +5,12 @@ use message::command::Duration;
 use message::item::TextRead;
 use message::item::WordRead;
 use message::item::ZoneRead;
-use message::items::Arming;
-use message::items::Condition;
-use message::items::LatchedAlarm;
-use message::items::TextMessage;
-use message::items::Zone;
+use message::lists;
+use message::lists::Arming;
+use message::lists::Condition;
+use message::lists::LatchedAlarm;
+use message::lists::TextMessage;
+use message::lists::Zone;
 use message::message::Fixed;
 use message::message::Message;
 use message::message::MessageRead;
@@ -53,9 +54,9 @@ fn packed_message(m: Message) -> u64
 {
     match m {
         Message::Fixed(f) => answer::pack_2_bytes(fixed_kind(f), 0),
-        Message::ZoneStatus { count } => answer::pack_2_bytes(0x16, count),
-        Message::Events { count } => answer::pack_2_bytes(0x23, count),
-        Message::MessageStatus { count } => answer::pack_2_bytes(0x25, count),
+        Message::ZoneStatus { count } => answer::pack_2_bytes(lists::ZONE_STATUS, count),
+        Message::Events { count } => answer::pack_2_bytes(lists::EVENTS, count),
+        Message::MessageStatus { count } => answer::pack_2_bytes(lists::MESSAGE_STATUS, count),
     }
 }
 

@@ -7,5 +7,6 @@ pub mod Encoded
 pub mod Framed
 pub mod Item
 pub mod Kinds
+pub mod Listed
 pub mod Lists
 pub mod RoundTrip

@@ -1,10 +1,11 @@
 -- Document 01, "Omni-Link messages", type 0F: commands and their durations.
-use Prim.Native.Nat.{ℕ, _+_, _-_, _*_}
+use Prim.Native.Nat.{ℕ, _-_}
 use mathlib.Core.Bool.{Bool, cond, not, _&&_}
 use mathlib.Core.List.{List}
 use lib.Dec.{eqb, ltb, leb}
 use lib.ListN.{length, getD}
 use Rattle.answer.specs.Answer.{Outcome, refused, accepted, refuseIf, numberOf}
+use Rattle.message.specs.Lists.{wordOf}
 use Rattle.message.specs.declared.command.Duration.{Duration}
 use Rattle.message.specs.declared.command.Duration.the-variants.{None, Seconds, Minutes, Hours}
 use Rattle.message.specs.declared.command.Command.{Command}
@@ -51,7 +52,7 @@ checkedCommand number p1 p2 = refuseIf (not (commandListed number p1 p2)) 8 (acc
 -- command: L=5; command, P1, P2 high, P2 low
 unfoldable pub readCommand : List ℕ → Outcome Command
 readCommand d =
-    refuseIf (not (eqb (length d) 4)) 7 (checkedCommand (getD d 0 0) (getD d 1 0) (getD d 2 0 * 256 + getD d 3 0))
+    refuseIf (not (eqb (length d) 4)) 7 (checkedCommand (getD d 0 0) (getD d 1 0) (wordOf (getD d 2 0) (getD d 3 0)))
 
 abbrev pub commandRead : CommandRead → Outcome Command
 commandRead (Accepted c) = accepted c

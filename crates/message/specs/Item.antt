@@ -1,4 +1,4 @@
--- The C interface's item calls: the message reader's refusals, then 6 for a message of another type, then 8 for an index past the last.
+-- The C interface's item calls: the message reader's refusals, then 8 for a message of another type and for an index past the last.
 use Prim.Native.Nat.{ℕ, zero, suc}
 use mathlib.Core.Bool.{not}
 use mathlib.Core.List.{List, [], _∷_}
@@ -7,13 +7,13 @@ use lib.ListN.{drop}
 use Rattle.answer.specs.Answer.{Outcome, refused, accepted, refuseIf, andThen, numberOf}
 use Rattle.link.specs.Frame.{Frame, readFrame}
 use Rattle.message.specs.Command.{readCommand}
-use Rattle.message.specs.Items.{zones, words, texts}
+use Rattle.message.specs.Lists.{zoneStatusType, eventsType, messageStatusType, zones, words, texts}
 use Rattle.message.specs.Log.{readLog}
 use Rattle.message.specs.Message.{readMessage}
 use Rattle.message.specs.declared.command.Command.{Command}
 use Rattle.message.specs.declared.log.LogEntry.{LogEntry}
-use Rattle.message.specs.declared.items.Zone.{Zone}
-use Rattle.message.specs.declared.items.TextMessage.{TextMessage}
+use Rattle.message.specs.declared.lists.Zone.{Zone}
+use Rattle.message.specs.declared.lists.TextMessage.{TextMessage}
 use Rattle.message.specs.declared.item.ZoneRead.{ZoneRead}
 use Rattle.message.specs.declared.item.ZoneRead.the-variants as Z
 use Rattle.message.specs.declared.item.WordRead.{WordRead}
@@ -21,11 +21,11 @@ use Rattle.message.specs.declared.item.WordRead.the-variants as W
 use Rattle.message.specs.declared.item.TextRead.{TextRead}
 use Rattle.message.specs.declared.item.TextRead.the-variants as T
 
--- the frame of a whole message of a type: the message reader's refusals, then 6 for another type
+-- the frame of a whole message of a type: the message reader's refusals, then 8 for another type
 unfoldable pub frameOf : ℕ → List ℕ → Outcome Frame
 frameOf kind s =
     andThen (readMessage s) (λ m.
-    andThen (readFrame s) (λ f. refuseIf (not (eqb (f .kind) kind)) 6 (accepted f)))
+    andThen (readFrame s) (λ f. refuseIf (not (eqb (f .kind) kind)) 8 (accepted f)))
 
 -- an item of a whole message of a type, as it is found in the data bytes
 unfoldable pub itemOf : {A : Type 0} → ℕ → (List ℕ → Outcome A) → List ℕ → Outcome A
@@ -39,15 +39,15 @@ itemAt (a ∷ l) (suc i) = itemAt l i
 
 -- zone i of a zone status
 abbrev pub zoneItem : ℕ → List ℕ → Outcome Zone
-zoneItem i = itemOf 0x16 (λ d. itemAt (zones d) i)
+zoneItem i = itemOf zoneStatusType (λ d. itemAt (zones d) i)
 
 -- event i
 abbrev pub eventItem : ℕ → List ℕ → Outcome ℕ
-eventItem i = itemOf 0x23 (λ d. itemAt (words d) i)
+eventItem i = itemOf eventsType (λ d. itemAt (words d) i)
 
 -- text message i of a message status
 abbrev pub textItem : ℕ → List ℕ → Outcome TextMessage
-textItem i = itemOf 0x25 (λ d. itemAt (texts (drop 1 d)) i)
+textItem i = itemOf messageStatusType (λ d. itemAt (texts (drop 1 d)) i)
 
 -- the fields of a log entry in the paper's order, parameter 2 as one
 abbrev pub logFields : LogEntry → List ℕ

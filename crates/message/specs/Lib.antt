@@ -1,7 +1,8 @@
-pub mod Command
-pub mod Item
-pub mod Items
+-- Omni-Link messages, in the paper's order; then writing typed messages and the item calls.
+pub mod Lists
 pub mod Log
+pub mod Command
 pub mod Message
-pub mod Parts
 pub mod Typed
+pub mod Item
+pub mod Parts

@@ -1,10 +1,11 @@
 -- Document 01, "Omni-Link messages", type 0E: log entries.
-use Prim.Native.Nat.{ℕ, _+_, _*_}
+use Prim.Native.Nat.{ℕ}
 use mathlib.Core.Bool.{Bool, not, _&&_, _||_}
 use mathlib.Core.List.{List}
 use lib.Dec.{eqb, leb}
 use lib.ListN.{length, getD}
 use Rattle.answer.specs.Answer.{Outcome, refused, accepted, refuseIf, numberOf}
+use Rattle.message.specs.Lists.{wordOf}
 use Rattle.message.specs.declared.log.LogEntry.{LogEntry}
 use Rattle.message.specs.declared.log.LogRead.{LogRead}
 use Rattle.message.specs.declared.log.LogRead.the-variants.{Accepted, Refused}
@@ -29,7 +30,7 @@ logOf d =
       minute = getD d 5 0;
       «event_type» = getD d 6 0;
       «parameter_1» = getD d 7 0;
-      «parameter_2» = getD d 8 0 * 256 + getD d 9 0;
+      «parameter_2» = wordOf (getD d 8 0) (getD d 9 0);
     }
 
 -- log entry: L=0B

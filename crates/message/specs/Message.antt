@@ -7,10 +7,10 @@ use lib.ListN.{length, getD, drop}
 use Rattle.answer.specs.Answer.{Outcome, refused, accepted, refuseIf, andThen, onAccepted, numberOf}
 use Rattle.link.specs.Frame.{readFrame, writeFrame}
 use Rattle.message.specs.Command.{readCommand}
-use Rattle.message.specs.Items.{zones, zonesListed, words, texts}
+use Rattle.message.specs.Lists.{zoneStatusType, eventsType, messageStatusType, zones, zonesListed, words, texts}
 use Rattle.message.specs.Log.{readLog}
-use Rattle.message.specs.declared.items.Zone.{Zone}
-use Rattle.message.specs.declared.items.TextMessage.{TextMessage}
+use Rattle.message.specs.declared.lists.Zone.{Zone}
+use Rattle.message.specs.declared.lists.TextMessage.{TextMessage}
 use Rattle.message.specs.declared.message.Fixed.{Fixed}
 use Rattle.message.specs.declared.message.Fixed.the-variants as F
 use Rattle.message.specs.declared.message.Message.{Message as Counted}
@@ -80,9 +80,9 @@ unfoldable pub withData : ℕ → List ℕ → Outcome Message
 withData kind d =
     cond (eqb kind 0x20) (readLogin d)
     (cond (eqb kind 0x15) (readZoneRequest d)
-    (cond (eqb kind 0x16) (readZoneStatus d)
-    (cond (eqb kind 0x23) (readEvents d)
-    (cond (eqb kind 0x25) (readMessageStatus d)
+    (cond (eqb kind zoneStatusType) (readZoneStatus d)
+    (cond (eqb kind eventsType) (readEvents d)
+    (cond (eqb kind messageStatusType) (readMessageStatus d)
     (cond (eqb kind 0x0E) (onAccepted (λ e. fixed (F.LogEntry e)) (readLog d))
     (cond (eqb kind 0x0F) (onAccepted (λ c. fixed (F.Command c)) (readCommand d))
     (refused 6)))))))

@@ -8,9 +8,9 @@ use Rattle.answer.specs.Answer.{Outcome, accepted, refuseIf}
 use Rattle.link.specs.Frame.{Header}
 use Rattle.message.specs.declared.typed.Encoded.{Encoded}
 
--- a header of a type; another type is 6
+-- a header of a type; another type is 8
 abbrev pub headerOf : ℕ → ℕ → ℕ → Outcome Header
-headerOf wanted kind count = refuseIf (not (eqb kind wanted)) 6 (accepted (record { kind = kind; count = count }))
+headerOf wanted kind count = refuseIf (not (eqb kind wanted)) 8 (accepted (record { kind = kind; count = count }))
 
 -- a type and up to ten data bytes, the rest of the array 0
 abbrev pub encoded : ℕ → List ℕ → Encoded

@@ -3,18 +3,19 @@ use Prim.Native.Nat.{ℕ, _+_, _*_, _/_, _%_}
 use mathlib.Core.Bool.{Bool, true, false, cond, not, _&&_}
 use mathlib.Core.List.{List, [], _∷_}
 use lib.Dec.{eqb, leb}
-use lib.ListN.{length}
+use lib.ListN.{length, drop}
 use Rattle.answer.specs.Answer.{Outcome, refuseIf}
 use Rattle.link.specs.Frame.{Frame}
-use Rattle.message.specs.Message.{Message, fixed, zoneStatus, events, messageStatus, writeMessage}
-use Rattle.message.specs.declared.items.Condition.{Condition}
-use Rattle.message.specs.declared.items.Condition.the-variants as Condition
-use Rattle.message.specs.declared.items.LatchedAlarm.{LatchedAlarm}
-use Rattle.message.specs.declared.items.LatchedAlarm.the-variants as LatchedAlarm
-use Rattle.message.specs.declared.items.Arming.{Arming}
-use Rattle.message.specs.declared.items.Arming.the-variants as Arming
-use Rattle.message.specs.declared.items.Zone.{Zone}
-use Rattle.message.specs.declared.items.TextMessage.{TextMessage}
+use Rattle.message.specs.Lists.{zoneStatusType, eventsType, messageStatusType, zones, words, texts}
+use Rattle.message.specs.Message.{Message, fixed, zoneStatus, events, messageStatus, counted, writeMessage}
+use Rattle.message.specs.declared.lists.Condition.{Condition}
+use Rattle.message.specs.declared.lists.Condition.the-variants as Condition
+use Rattle.message.specs.declared.lists.LatchedAlarm.{LatchedAlarm}
+use Rattle.message.specs.declared.lists.LatchedAlarm.the-variants as LatchedAlarm
+use Rattle.message.specs.declared.lists.Arming.{Arming}
+use Rattle.message.specs.declared.lists.Arming.the-variants as Arming
+use Rattle.message.specs.declared.lists.Zone.{Zone}
+use Rattle.message.specs.declared.lists.TextMessage.{TextMessage}
 use Rattle.message.specs.declared.log.LogEntry.{LogEntry}
 use Rattle.message.specs.declared.message.Fixed.{Fixed}
 use Rattle.message.specs.declared.message.Fixed.the-variants as F
@@ -75,17 +76,6 @@ fixedFrame (F.Command c) = record { kind = 0x0F; bytes = commandBytes c }
 unfoldable pub writeFixed : Fixed → Outcome (List ℕ)
 writeFixed f = writeMessage (fixedFrame f .kind) (fixedFrame f .bytes)
 
--- writing a list of so many data bytes
-unfoldable pub writeItems : ℕ → ℕ → List ℕ → Outcome (List ℕ)
-writeItems kind size items = refuseIf (not (eqb (length items) size)) 7 (writeMessage kind items)
-
--- writing a typed message, the items of a list lent as its data bytes
-abbrev pub writeCounted : Counted → List ℕ → Outcome (List ℕ)
-writeCounted (C.Fixed f) items = writeFixed f
-writeCounted (C.ZoneStatus n) items = writeItems 0x16 (2 * n) items
-writeCounted (C.Events n) items = writeItems 0x23 (2 * n) items
-writeCounted (C.MessageStatus n) items = writeItems 0x25 (1 + n / 4) items
-
 -- a zone's status byte, and the data bytes of zones
 abbrev pub conditionBits : Condition → ℕ
 conditionBits Condition.Secure = 0
@@ -130,9 +120,45 @@ textBytes (a ∷ b ∷ []) = []
 textBytes (a ∷ b ∷ c ∷ []) = []
 textBytes (a ∷ b ∷ c ∷ d ∷ ts) = (64 * textBits a + 16 * textBits b + 4 * textBits c + textBits d) ∷ textBytes ts
 
--- writing a message with its list: text messages come in fours, else 7
+-- the type of a message
+abbrev pub kindOf : Counted → ℕ
+kindOf (C.Fixed f) = fixedFrame f .kind
+kindOf (C.ZoneStatus n) = zoneStatusType
+kindOf (C.Events n) = eventsType
+kindOf (C.MessageStatus n) = messageStatusType
+
+-- how many items its list has
+abbrev pub countOf : Counted → ℕ
+countOf (C.Fixed f) = 0
+countOf (C.ZoneStatus n) = n
+countOf (C.Events n) = n
+countOf (C.MessageStatus n) = n
+
+-- writing a list's message by its data bytes: 7 where they are not as many as its items need
+unfoldable pub writeItems : ℕ → ℕ → List ℕ → Outcome (List ℕ)
+writeItems kind size d = refuseIf (not (eqb (length d) size)) 7 (writeMessage kind d)
+
+-- writing a typed message, the data bytes of its list beside it: a message without a list has none, text messages come in fours, else 7
+abbrev pub writeCounted : Counted → List ℕ → Outcome (List ℕ)
+writeCounted (C.Fixed f) d = refuseIf (not (eqb (length d) 0)) 7 (writeFixed f)
+writeCounted (C.ZoneStatus n) d = writeItems zoneStatusType (2 * n) d
+writeCounted (C.Events n) d = writeItems eventsType (2 * n) d
+writeCounted (C.MessageStatus n) d = refuseIf (not (eqb (n % 4) 0)) 7 (writeItems messageStatusType (1 + n / 4) d)
+
+-- the message that a typed message and the data bytes of its list are
+abbrev pub withList : Counted → List ℕ → Message
+withList (C.Fixed f) d = fixed f
+withList (C.ZoneStatus n) d = zoneStatus (zones d)
+withList (C.Events n) d = events (words d)
+withList (C.MessageStatus n) d = messageStatus (texts (drop 1 d))
+
+-- the data bytes of a message's list; of a message status the first is 00
+abbrev pub itemBytes : Message → List ℕ
+itemBytes (fixed f) = []
+itemBytes (zoneStatus zs) = zoneBytes zs
+itemBytes (events es) = eventBytes es
+itemBytes (messageStatus ts) = 0 ∷ textBytes ts
+
+-- writing a message with its list
 unfoldable pub write : Message → Outcome (List ℕ)
-write (fixed f) = writeFixed f
-write (zoneStatus zs) = writeMessage 0x16 (zoneBytes zs)
-write (events es) = writeMessage 0x23 (eventBytes es)
-write (messageStatus ts) = refuseIf (not (eqb (length ts % 4) 0)) 7 (writeMessage 0x25 (0 ∷ textBytes ts))
+write m = writeCounted (counted m) (itemBytes m)

@@ -1,8 +1,8 @@
 // Items of messages: of data bytes that carry a list, and of whole messages by their bytes.
 use crate::command::CommandRead;
-use crate::items;
-use crate::items::TextMessage;
-use crate::items::Zone;
+use crate::lists;
+use crate::lists::TextMessage;
+use crate::lists::Zone;
 use crate::log::LogEntry;
 use crate::log::LogRead;
 use crate::message;
@@ -14,7 +14,7 @@ ghost use lib.ListN.{drop};
 ghost use Rattle.answer.specs.Answer.{andThen, onAccepted};
 ghost use Rattle.link.specs.Frame.{header, outcomeOf};
 ghost use Rattle.message.specs.Command.{commandRead};
-ghost use Rattle.message.specs.Items.{zones, words, texts};
+ghost use Rattle.message.specs.Lists.{zones, words, texts};
 ghost use Rattle.message.specs.Log.{readLog};
 ghost use Rattle.message.specs.Parts.{headerOf, twoBits};
 ghost use Rattle.message.specs.Item.{frameOf, itemAt, zoneItem, eventItem, textItem, logFields, logItem, commandItem, zoneRead, wordRead, textRead};
@@ -35,17 +35,17 @@ pub enum TextRead {
 }
 
 // Zone i of data bytes that carry zones; past the last is 8.
-pub fn zone_at(data: &[u8], i: usize) -> ZoneRead
+fn zone_at(data: &[u8], i: usize) -> ZoneRead
     ensures { λ r. ⌜ zoneRead r ≡ itemAt (zones (now («data» .entry))) i ⌝ }
 {
     if data.len() / 2 <= i {
         return ZoneRead::Refused(Refusal::Field);
     }
-    ZoneRead::Accepted(items::zone_of(data[2 * i], data[2 * i + 1]))
+    ZoneRead::Accepted(lists::zone_of(data[2 * i], data[2 * i + 1]))
 }
 
 // Event i of data bytes that carry events; past the last is 8.
-pub fn event_at(data: &[u8], i: usize) -> WordRead
+fn event_at(data: &[u8], i: usize) -> WordRead
     ensures { λ r. ⌜ wordRead r ≡ itemAt (words (now («data» .entry))) i ⌝ }
 {
     if data.len() / 2 <= i {
@@ -71,7 +71,7 @@ fn two_bits(b: u8, k: u8) -> u8
 }
 
 // Text message i of the data bytes of a message status; past the last is 8.
-pub fn text_at(data: &[u8], i: usize) -> TextRead
+fn text_at(data: &[u8], i: usize) -> TextRead
     ensures { λ r. ⌜ textRead r ≡ itemAt (texts (drop 1 (now («data» .entry)))) i ⌝ }
 {
     if data.len() == 0 {
@@ -81,7 +81,7 @@ pub fn text_at(data: &[u8], i: usize) -> TextRead
         return TextRead::Refused(Refusal::Field);
     }
     let bits = two_bits(data[1 + i / 4], (i % 4) as u8);
-    TextRead::Accepted(items::text_of(bits))
+    TextRead::Accepted(lists::text_of(bits))
 }
 
 // Field i of a log entry, in the paper's order, parameter 2 as one; past the last is 8.
@@ -115,12 +115,12 @@ fn log_field_at(data: &[u8], i: usize) -> WordRead
     }
 }
 
-// A header of the type that is asked for; another type is 6.
+// A header of the type that is asked for; another type is 8.
 fn of_kind(wanted: u8, kind: u8, count: u8) -> FrameRead
     ensures { λ r. ⌜ outcomeOf r ≡ headerOf wanted kind count ⌝ }
 {
     if kind != wanted {
-        return FrameRead::Refused(Refusal::Unknown);
+        return FrameRead::Refused(Refusal::Field);
     }
     FrameRead::Accepted { kind, count }
 }
@@ -145,7 +145,7 @@ fn header_of(bytes: &[u8], wanted: u8) -> FrameRead
 pub fn zone(bytes: &[u8], i: usize) -> ZoneRead
     ensures { λ r. ⌜ zoneRead r ≡ zoneItem i (now (bytes .entry)) ⌝ }
 {
-    match header_of(bytes, 0x16) {
+    match header_of(bytes, lists::ZONE_STATUS) {
         FrameRead::Accepted { kind: _, count } => zone_at(link::frame::data(bytes, count), i),
         FrameRead::Refused(r) => ZoneRead::Refused(r),
     }
@@ -155,7 +155,7 @@ pub fn zone(bytes: &[u8], i: usize) -> ZoneRead
 pub fn event(bytes: &[u8], i: usize) -> WordRead
     ensures { λ r. ⌜ wordRead r ≡ eventItem i (now (bytes .entry)) ⌝ }
 {
-    match header_of(bytes, 0x23) {
+    match header_of(bytes, lists::EVENTS) {
         FrameRead::Accepted { kind: _, count } => event_at(link::frame::data(bytes, count), i),
         FrameRead::Refused(r) => WordRead::Refused(r),
     }
@@ -165,7 +165,7 @@ pub fn event(bytes: &[u8], i: usize) -> WordRead
 pub fn text_message(bytes: &[u8], i: usize) -> TextRead
     ensures { λ r. ⌜ textRead r ≡ textItem i (now (bytes .entry)) ⌝ }
 {
-    match header_of(bytes, 0x25) {
+    match header_of(bytes, lists::MESSAGE_STATUS) {
         FrameRead::Accepted { kind: _, count } => text_at(link::frame::data(bytes, count), i),
         FrameRead::Refused(r) => TextRead::Refused(r),
     }

@@ -1,7 +1,7 @@
 // Omni-Link messages (document 01, "Omni-Link messages"): typed reading and writing above frames.
 pub mod command;
 pub mod item;
-pub mod items;
+pub mod lists;
 pub mod log;
 pub mod message;
 pub mod typed;

@@ -1,7 +1,7 @@
 // Every message type: reading a frame's type and data bytes, and whole frames.
 use crate::command::Command;
 use crate::command::CommandRead;
-use crate::items;
+use crate::lists;
 use crate::log::LogEntry;
 use crate::log::LogRead;
 use answer::Refusal;
@@ -14,7 +14,7 @@ ghost use lib.Dec.{eqb};
 ghost use lib.ListN.{length, getD};
 ghost use Rattle.answer.specs.Answer.{accepted, refuseIf, onAccepted, inRoom, outAfter, writtenOf};
 ghost use Rattle.message.specs.Command.{readCommand};
-ghost use Rattle.message.specs.Items.{zonesListed};
+ghost use Rattle.message.specs.Lists.{zonesListed};
 ghost use Rattle.message.specs.Log.{readLog};
 ghost use Rattle.message.specs.Message.{digitsListed, orderListed, readPlain, readLogin, readZoneRequest, readZoneStatus, readEvents, readMessageStatus, withData, messageOf, readMessage, writeMessage, counted, messageRead};
 
@@ -132,7 +132,7 @@ fn zones_listed(data: &[u8]) -> bool
 {
     let mut i = 0;
     while i < data.len() {
-        if items::zone_listed(data[i]) {
+        if lists::zone_listed(data[i]) {
             i += 2;
         } else {
             return false;
@@ -231,13 +231,13 @@ fn with_data(kind: u8, data: &[u8]) -> MessageRead
     if kind == 0x15 {
         return zone_request(data);
     }
-    if kind == 0x16 {
+    if kind == lists::ZONE_STATUS {
         return zone_status(data);
     }
-    if kind == 0x23 {
+    if kind == lists::EVENTS {
         return events(data);
     }
-    if kind == 0x25 {
+    if kind == lists::MESSAGE_STATUS {
         return message_status(data);
     }
     if kind == 0x0E {

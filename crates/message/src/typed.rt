@@ -1,6 +1,7 @@
 // Writing typed messages.
 use crate::command::Command;
 use crate::command::Duration;
+use crate::lists;
 use crate::log::LogEntry;
 use crate::message;
 use crate::message::Fixed;
@@ -16,7 +17,7 @@ ghost use Rattle.message.specs.Parts.{encoded};
 ghost use Rattle.message.specs.Typed.{countP1, durationP1, parameters, commandBytes, logBytes, fixedFrame, writeFixed, writeCounted, writeItems};
 
 // A message of fixed length as its type and data bytes, the first `count` of `bytes`.
-pub struct Encoded {
+struct Encoded {
     pub kind: u8,
     pub count: usize,
     pub bytes: [u8; 10],
@@ -156,26 +157,50 @@ pub fn write_fixed(f: Fixed, out: &mut [u8]) -> Written
     message::write(e.kind, &bytes[..count], out)
 }
 
-// Writes a list's message of so many data bytes, which are lent; another number of them is 7.
-fn write_items(kind: u8, size: usize, items: &[u8], out: &mut [u8]) -> Written
-    ensures { λ r. ⌜ writtenOf r ≡ onAccepted length (inRoom (length (now (out .entry))) (writeItems kind size (now (items .entry)))) ⌝ }
-    ensures { λ _. ⌜ now (out .exit) ≡ outAfter (inRoom (length (now (out .entry))) (writeItems kind size (now (items .entry)))) (now (out .entry)) ⌝ }
+// Writes a list's message by its data bytes, which are lent: 7 where they are not as many as its items need.
+fn write_items(kind: u8, size: usize, data: &[u8], out: &mut [u8]) -> Written
+    ensures { λ r. ⌜ writtenOf r ≡ onAccepted length (inRoom (length (now (out .entry))) (writeItems kind size (now («data» .entry)))) ⌝ }
+    ensures { λ _. ⌜ now (out .exit) ≡ outAfter (inRoom (length (now (out .entry))) (writeItems kind size (now («data» .entry)))) (now (out .entry)) ⌝ }
 {
-    if items.len() != size {
+    if data.len() != size {
         return Written::Refused(Refusal::TypeLength);
     }
-    message::write(kind, items, out)
+    message::write(kind, data, out)
 }
 
-// Writes a typed message. The items of a list are lent as its data bytes.
-pub fn write(m: Message, items: &[u8], out: &mut [u8]) -> Written
-    ensures { λ r. ⌜ writtenOf r ≡ onAccepted length (inRoom (length (now (out .entry))) (writeCounted m (now (items .entry)))) ⌝ }
-    ensures { λ _. ⌜ now (out .exit) ≡ outAfter (inRoom (length (now (out .entry))) (writeCounted m (now (items .entry)))) (now (out .entry)) ⌝ }
+// Writes a message without a list, which has no data bytes lent beside it.
+fn write_alone(f: Fixed, data: &[u8], out: &mut [u8]) -> Written
+    ensures { λ r. ⌜ writtenOf r ≡ onAccepted length (inRoom (length (now (out .entry))) (writeCounted (Message.Fixed f) (now («data» .entry)))) ⌝ }
+    ensures { λ _. ⌜ now (out .exit) ≡ outAfter (inRoom (length (now (out .entry))) (writeCounted (Message.Fixed f) (now («data» .entry)))) (now (out .entry)) ⌝ }
+{
+    if data.len() != 0 {
+        return Written::Refused(Refusal::TypeLength);
+    }
+    write_fixed(f, out)
+}
+
+// Writes a message status of so many text messages, which come in fours.
+fn write_texts(count: u8, data: &[u8], out: &mut [u8]) -> Written
+    ensures { λ r. ⌜ writtenOf r ≡ onAccepted length (inRoom (length (now (out .entry))) (writeCounted (Message.MessageStatus count) (now («data» .entry)))) ⌝ }
+    ensures { λ _. ⌜ now (out .exit) ≡ outAfter (inRoom (length (now (out .entry))) (writeCounted (Message.MessageStatus count) (now («data» .entry)))) (now (out .entry)) ⌝ }
+{
+    if count % 4 != 0 {
+        return Written::Refused(Refusal::TypeLength);
+    }
+    write_items(lists::MESSAGE_STATUS, 1 + count as usize / 4, data, out)
+}
+
+// Writes a typed message. The items of a list are lent as its data bytes; a message without a list has none.
+pub fn write(m: Message, data: &[u8], out: &mut [u8]) -> Written
+    ensures { λ r. ⌜ writtenOf r ≡ onAccepted length (inRoom (length (now (out .entry))) (writeCounted m (now («data» .entry)))) ⌝ }
+    ensures { λ _. ⌜ now (out .exit) ≡ outAfter (inRoom (length (now (out .entry))) (writeCounted m (now («data» .entry)))) (now (out .entry)) ⌝ }
 {
     match m {
-        Message::Fixed(f) => write_fixed(f, out),
-        Message::ZoneStatus { count } => write_items(0x16, 2 * count as usize, items, out),
-        Message::Events { count } => write_items(0x23, 2 * count as usize, items, out),
-        Message::MessageStatus { count } => write_items(0x25, 1 + count as usize / 4, items, out),
+        Message::Fixed(f) => write_alone(f, data, out),
+        Message::ZoneStatus { count } => {
+            write_items(lists::ZONE_STATUS, 2 * count as usize, data, out)
+        }
+        Message::Events { count } => write_items(lists::EVENTS, 2 * count as usize, data, out),
+        Message::MessageStatus { count } => write_texts(count, data, out),
     }
 }

@@ -11,11 +11,11 @@ use message::command::Duration;
 use message::item::TextRead;
 use message::item::WordRead;
 use message::item::ZoneRead;
-use message::items::Arming;
-use message::items::Condition;
-use message::items::LatchedAlarm;
-use message::items::TextMessage;
-use message::items::Zone;
+use message::lists::Arming;
+use message::lists::Condition;
+use message::lists::LatchedAlarm;
+use message::lists::TextMessage;
+use message::lists::Zone;
 
 // The messages that have items, as their names are listed in omnilink.rt.
 pub(crate) const LOG_ENTRY: u8 = 9;

@@ -9,7 +9,7 @@ use borrow.Author.Tests.{eqb-true, not-false}
 use Rattle.answer.specs.Answer.{Outcome, refused, accepted, refuseIf, onAccepted}
 use Rattle.answer.proofs.Laws.Test.{not-accepted}
 use Rattle.link.specs.Frame.{Frame}
-use Rattle.message.specs.Items.{zones, zonesListed, words, texts}
+use Rattle.message.specs.Lists.{zones, zonesListed, words, texts}
 use Rattle.message.specs.Message.{Message, fixed, zoneStatus, events, messageStatus, digitsListed, orderListed, statusLength, readPlain, readLogin, readZoneRequest, readZoneStatus, readEvents, readMessageStatus, withData, messageOf}
 use Rattle.message.specs.Command.{readCommand}
 use Rattle.message.specs.Log.{readLog}

@@ -11,7 +11,7 @@ use borrow.Author.Tests.{eq-eqb, ne-eqb, not-false}
 use Rattle.answer.specs.Answer.{accepted}
 use Rattle.answer.proofs.Laws.Test.{passed}
 use Rattle.message.specs.Command.{commandListed, commandOf, checkedCommand, readCommand}
-use Rattle.message.specs.Items.{conditionOf, latchedOf, armingOf, zoneOf, textOf, zones, words, texts}
+use Rattle.message.specs.Lists.{conditionOf, latchedOf, armingOf, zoneOf, textOf, zones, words, texts}
 use Rattle.message.specs.Log.{logListed, logOf, readLog}
 use Rattle.message.specs.Message.{Message, fixed, digitsListed, orderListed, readPlain, readLogin, readZoneRequest, withData, messageOf}
 use Rattle.message.specs.Typed.{durationP1, parameters, commandBytes, logBytes, fixedFrame, conditionBits, latchedBits, armingBits, flag, statusByte, zoneBytes, eventBytes, textBits, textBytes}
@@ -19,14 +19,14 @@ use Rattle.message.specs.declared.command.Duration.{Duration}
 use Rattle.message.specs.declared.command.Command.{Command}
 use Rattle.message.specs.declared.command.Command.the-variants.{Off, On, AllOff, AllOn, Level, Decrement, Increment, SetCounter}
 use Rattle.message.specs.declared.log.LogEntry.{LogEntry}
-use Rattle.message.specs.declared.items.Condition.{Condition}
-use Rattle.message.specs.declared.items.Condition.the-variants as Condition
-use Rattle.message.specs.declared.items.LatchedAlarm.{LatchedAlarm}
-use Rattle.message.specs.declared.items.LatchedAlarm.the-variants as LatchedAlarm
-use Rattle.message.specs.declared.items.Arming.{Arming}
-use Rattle.message.specs.declared.items.Arming.the-variants as Arming
-use Rattle.message.specs.declared.items.Zone.{Zone}
-use Rattle.message.specs.declared.items.TextMessage.{TextMessage}
+use Rattle.message.specs.declared.lists.Condition.{Condition}
+use Rattle.message.specs.declared.lists.Condition.the-variants as Condition
+use Rattle.message.specs.declared.lists.LatchedAlarm.{LatchedAlarm}
+use Rattle.message.specs.declared.lists.LatchedAlarm.the-variants as LatchedAlarm
+use Rattle.message.specs.declared.lists.Arming.{Arming}
+use Rattle.message.specs.declared.lists.Arming.the-variants as Arming
+use Rattle.message.specs.declared.lists.Zone.{Zone}
+use Rattle.message.specs.declared.lists.TextMessage.{TextMessage}
 use Rattle.message.specs.declared.message.Fixed.{Fixed}
 use Rattle.message.specs.declared.message.Fixed.the-variants as F
 use Rattle.message.proofs.Laws.Checked.{was-accepted, both}

@@ -10,14 +10,14 @@ use lib.ListN.{length, getD, drop}
 use lib.Pow.{areBytes}
 use borrow.Author.Tests.{eqb-true, eqb-false, ltb-true, not-true}
 use Rattle.message.specs.Command.{durationListed, commandListed, commandOf}
-use Rattle.message.specs.Items.{zoneOf, zoneListed, zonesListed, textOf, zones, words, texts}
+use Rattle.message.specs.Lists.{zoneOf, zoneListed, zonesListed, textOf, zones, words, texts}
 use Rattle.message.specs.Typed.{parameters, commandBytes, conditionBits, latchedBits, armingBits, flag, statusByte, zoneBytes, eventBytes, textBits, textBytes}
-use Rattle.message.specs.declared.items.Condition.{Condition}
-use Rattle.message.specs.declared.items.Condition.the-variants as Condition
-use Rattle.message.specs.declared.items.LatchedAlarm.{LatchedAlarm}
-use Rattle.message.specs.declared.items.LatchedAlarm.the-variants as LatchedAlarm
-use Rattle.message.specs.declared.items.Arming.{Arming}
-use Rattle.message.specs.declared.items.Arming.the-variants as Arming
+use Rattle.message.specs.declared.lists.Condition.{Condition}
+use Rattle.message.specs.declared.lists.Condition.the-variants as Condition
+use Rattle.message.specs.declared.lists.LatchedAlarm.{LatchedAlarm}
+use Rattle.message.specs.declared.lists.LatchedAlarm.the-variants as LatchedAlarm
+use Rattle.message.specs.declared.lists.Arming.{Arming}
+use Rattle.message.specs.declared.lists.Arming.the-variants as Arming
 use Rattle.message.proofs.Laws.Checked.{both}
 use Rattle.message.proofs.Laws.Duration.{p1-after-duration}
 

@@ -1,9 +1,12 @@
 -- A message in its frame, by what the frame reader hands back. Assumes nothing.
 use mathlib.Core.Path.{_≡_, refl, sym, ap, _∙_}
+use mathlib.Core.Bool.{Bool, not}
 use mathlib.Core.List.{List}
 use Prim.Native.Nat.{ℕ}
+use lib.Dec.{eqb}
 use lib.ListN.{length}
-use Rattle.answer.specs.Answer.{Outcome, refused, accepted, andThen, onAccepted, inRoom, outAfter}
+use borrow.Author.Tests.{eq-eqb, ne-eqb}
+use Rattle.answer.specs.Answer.{Outcome, refused, accepted, refuseIf, andThen, onAccepted, inRoom, outAfter}
 use Rattle.link.specs.Frame.{Frame, Header, header, readFrame, writeFrame, dataPart}
 use Rattle.link.proofs.Laws.Whole.{data-part}
 use Rattle.message.specs.Typed.{writeCounted}
@@ -54,3 +57,15 @@ leaves-same-case room m case items old final w is a f =
 pub leaves-nothing : (o : Outcome (List ℕ)) (old : List ℕ) (n : ℕ) → o ≡ refused n
     → (refused n ≡ onAccepted length o) × (old ≡ outAfter o old)
 leaves-nothing o old n e = leaves-same o (refused n) old old (refused n) e refl refl
+
+-- behind a check that a number is the one asked for, else n
+module _ (room a b n : ℕ) (later : Outcome (List ℕ)) (old : List ℕ) where
+  abbrev checked : Outcome (List ℕ)
+  checked = inRoom room (refuseIf (not (eqb a b)) n later)
+
+  pub leaves-another : (a ≡ b → ⊥) → (refused n ≡ onAccepted length checked) × (old ≡ outAfter checked old)
+  leaves-another h = leaves-nothing checked old n (ap (λ (t : Bool). inRoom room (refuseIf (not t) n later)) (ne-eqb a b h))
+
+  pub leaves-equal : (final : List ℕ) (w : Outcome ℕ) → a ≡ b → w ≡ onAccepted length (inRoom room later) → final ≡ outAfter (inRoom room later) old
+      → (w ≡ onAccepted length checked) × (final ≡ outAfter checked old)
+  leaves-equal final w h = leaves-same checked (inRoom room later) old final w (ap (λ (t : Bool). inRoom room (refuseIf (not t) n later)) (eq-eqb a b h))

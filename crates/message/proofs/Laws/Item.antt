@@ -21,7 +21,7 @@ use Rattle.message.proofs.Laws.Framed.{framed, unframed}
 
 -- a frame of a type
 abbrev ofKind : ℕ → Frame → Outcome Frame
-ofKind wanted g = refuseIf (not (eqb (g .kind) wanted)) 6 (accepted g)
+ofKind wanted g = refuseIf (not (eqb (g .kind) wanted)) 8 (accepted g)
 
 module _ (wanted : ℕ) (s : List ℕ) where
   -- the frame of a message of a type is the frame that was read
@@ -31,7 +31,7 @@ module _ (wanted : ℕ) (s : List ℕ) where
     where
       same : (o : Outcome Frame) → andThen o (ofKind wanted) ≡ accepted f → o ≡ accepted f
       same (refused n) h = absurd (not-accepted n f h)
-      same (accepted g) h = passed (not (eqb (g .kind) wanted)) 6 (accepted g) f h .1
+      same (accepted g) h = passed (not (eqb (g .kind) wanted)) 8 (accepted g) f h .1
 
       by : (o : Outcome Message) → andThen o (λ m. andThen (readFrame s) (ofKind wanted)) ≡ accepted f
           → readFrame s ≡ accepted f
@@ -62,8 +62,8 @@ module _ (wanted : ℕ) (s : List ℕ) where
         last w (refused r) = refl
         last w (accepted m) =
             ap (λ (x : Outcome Frame). onAccepted header (andThen x (ofKind wanted))) (w .1)
-            ∙ behind-check header (not (eqb (w .0 .kind) wanted)) 6 (accepted (w .0))
-            ∙ ap (λ (x : Header). refuseIf (not (eqb (x .kind) wanted)) 6 (accepted x)) (sym (w .2))
+            ∙ behind-check header (not (eqb (w .0 .kind) wanted)) 8 (accepted (w .0))
+            ∙ ap (λ (x : Header). refuseIf (not (eqb (x .kind) wanted)) 8 (accepted x)) (sym (w .2))
 
     module _ (x : MessageRead) (told : messageRead x ≡ onAccepted counted (messageOf k d)) where
       pub header-read : (c : Counted) → x ≡ M.Accepted c → headerOf wanted k n ≡ onAccepted header (frameOf wanted s)

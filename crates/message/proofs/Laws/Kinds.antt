@@ -8,7 +8,7 @@ use lib.Dec.{eqb}
 use lib.ListN.{length, getD, drop, length-drop}
 use borrow.Author.Tests.{eq-eqb, ne-eqb, le-ltb}
 use Rattle.answer.specs.Answer.{refused, accepted, refuseIf, onAccepted}
-use Rattle.message.specs.Items.{zoneOf, zones, zonesListed, texts}
+use Rattle.message.specs.Lists.{zoneOf, zones, zonesListed, texts}
 use Rattle.message.specs.Message.{zoneStatus, messageStatus, statusLength, readZoneStatus, readMessageStatus, withData, messageOf, counted}
 use Rattle.message.specs.declared.message.Message.the-variants as C
 use Rattle.message.proofs.Laws.Checked.{refuses, passes, behind-check}

@@ -7,7 +7,7 @@ use native.Mathlib.Numerals.{add-two}
 use native.Mathlib.Omega.{arith}
 use lib.ListN.{length, getD, drop, drop-of-length-le}
 use lib.Seq.{drop-cons}
-use Rattle.message.specs.Items.{zoneListed, zonesListed, pairs, texts, textOf}
+use Rattle.message.specs.Lists.{zoneListed, zonesListed, pairs, texts, textOf}
 use Rattle.message.specs.Item.{itemAt}
 use Rattle.message.specs.Parts.{twoBits}
 use Rattle.answer.specs.Answer.{refused, accepted}

@@ -5,27 +5,29 @@ use mathlib.Core.List.{List, [], _∷_}
 use Prim.Native.Nat.{ℕ, _+_, _*_, _/_, _%_}
 use native.Mathlib.Omega.{arith}
 use lib.Dec.{T, eqb}
-use lib.ListN.{length, getD, drop}
+use lib.ListN.{length, getD, drop, length-drop}
 use lib.Pow.{areBytes}
 use borrow.Author.Tests.{eq-eqb, eqb-true, not-false}
 use Rattle.answer.specs.Answer.{Outcome, refused, accepted, andThen}
-use Rattle.answer.proofs.Laws.Test.{passed, not-accepted}
+use Rattle.answer.proofs.Laws.Test.{passed, passed-not, not-accepted}
 use Rattle.link.proofs.Laws.Bytes.{byte-at, drop-bytes}
 use Rattle.link.specs.Frame.{Frame, readFrame, writeFrame}
 use Rattle.link.proofs.Laws.RoundTrip as Frames
 use Rattle.link.proofs.Laws.Whole.{data-bytes}
 use Rattle.message.specs.Command.{commandListed, commandOf, checkedCommand, readCommand}
-use Rattle.message.specs.Items.{zones, zonesListed, words, texts}
+use Rattle.message.specs.Lists.{zoneStatusType, eventsType, messageStatusType, zoneOf, wordOf, zones, zonesListed, words, texts}
 use Rattle.message.specs.Log.{logListed, logOf, readLog}
 use Rattle.message.specs.declared.command.Command.{Command}
 use Rattle.message.specs.declared.log.LogEntry.{LogEntry}
 use Rattle.message.specs.declared.message.Fixed.{Fixed}
 use Rattle.message.specs.declared.message.Fixed.the-variants as F
-use Rattle.message.specs.Message.{Message, fixed, zoneStatus, events, messageStatus, messageOf, readMessage, writeMessage, withData, statusLength}
-use Rattle.message.specs.Typed.{commandBytes, logBytes, fixedFrame, zoneBytes, eventBytes, textBytes, writeFixed, write}
+use Rattle.message.specs.declared.message.Message.{Message as Counted}
+use Rattle.message.specs.declared.message.Message.the-variants as C
+use Rattle.message.specs.Message.{Message, fixed, zoneStatus, events, messageStatus, counted, messageOf, readMessage, writeMessage, withData, statusLength}
+use Rattle.message.specs.Typed.{commandBytes, logBytes, fixedFrame, zoneBytes, eventBytes, textBytes, writeFixed, writeItems, writeCounted, withList, itemBytes, write}
 use Rattle.message.proofs.Laws.Decode.{fixed-back, zones-back, events-back, texts-back}
 use Rattle.message.proofs.Laws.Checked.{passes, never}
-use Rattle.message.proofs.Laws.Lists.{texts-length}
+use Rattle.message.proofs.Laws.Lists.{pairs-length, texts-length}
 use Rattle.message.proofs.Laws.Accepts.{every-type, every-plain, every-login, every-request, every-zones, every-events, every-texts, every-log, every-command}
 use Rattle.message.proofs.Laws.Encode.{none-of, leading, two-of, four-of, ten-of, command-encoded, word-apart, events-encoded, zones-encoded, texts-encoded}
 
@@ -53,18 +55,51 @@ same-read kind d s m e back =
     let c = carried kind d s e in
     reads-written kind d s e ∙ c .1 ∙ ap accepted (back (c .0) (c .1))
 
+-- a list's message by its data bytes
+list-read : (kind size : ℕ) (d s : List ℕ) (m : Message) → writeItems kind size d ≡ accepted s → ((r : Message) → messageOf kind d ≡ accepted r → r ≡ m)
+    → (length d ≡ size) × (readMessage s ≡ accepted m)
+unfolding writeItems
+list-read kind size d s m e back =
+    let p = passed-not (eqb (length d) size) 7 (writeMessage kind d) s e in
+    (eqb-true (length d) size (p .0), same-read kind d s m (p .1) back)
+
+-- what the typed writer writes reads back as the message and the items that it was given
+pub typed-read-after-write : (m : Counted) (d s : List ℕ) → writeCounted m d ≡ accepted s
+    → (readMessage s ≡ accepted (withList m d)) × (counted (withList m d) ≡ m)
+unfolding writeFixed messageOf withData
+typed-read-after-write (C.Fixed f) d s e =
+    let p = passed-not (eqb (length d) 0) 7 (writeFixed f) s e in
+    (same-read (fixedFrame f .kind) (fixedFrame f .bytes) s (fixed f) (p .1) (fixed-back f), refl)
+typed-read-after-write (C.ZoneStatus n) d s e =
+    let r = list-read zoneStatusType (2 * n) d s (zoneStatus (zones d)) e (every-zones (λ r. r ≡ zoneStatus (zones d)) d (λ _ _. refl)) in
+    let size : length (zones d) ≡ n = omega (arith, pairs-length zoneOf d) in
+    (r .1, ap C.ZoneStatus size)
+typed-read-after-write (C.Events n) d s e =
+    let r = list-read eventsType (2 * n) d s (events (words d)) e (every-events (λ r. r ≡ events (words d)) d (λ _. refl)) in
+    let size : length (words d) ≡ n = omega (arith, pairs-length wordOf d) in
+    (r .1, ap C.Events size)
+typed-read-after-write (C.MessageStatus n) d s e =
+    let p = passed-not (eqb (n % 4) 0) 7 (writeItems messageStatusType (1 + n / 4) d) s e in
+    let r =
+    list-read messageStatusType (1 + n / 4) d s (messageStatus (texts (drop 1 d))) (p .1)
+    (every-texts (λ r. r ≡ messageStatus (texts (drop 1 d))) d (λ _ _. refl)) in
+    let fours : n % 4 ≡ 0 = eqb-true (n % 4) 0 (p .0) in
+    let size : length (texts (drop 1 d)) ≡ n = omega (arith, texts-length (drop 1 d), length-drop 1 d) in
+    (r .1, ap C.MessageStatus size)
+
+-- the items of a message in their data bytes are its items
+items-back : (m : Message) (s : List ℕ) → write m ≡ accepted s → withList (counted m) (itemBytes m) ≡ m
+unfolding write
+items-back (fixed f) s e = refl
+items-back (zoneStatus zs) s e = ap zoneStatus (zones-back zs)
+items-back (events es) s e = ap events (events-back es)
+items-back (messageStatus ts) s e =
+    let p = passed-not (eqb (length ts % 4) 0) 7 _ s e in
+    ap messageStatus (texts-back ts (eqb-true (length ts % 4) 0 (p .0)))
+
 pub read-after-write : (m : Message) (s : List ℕ) → write m ≡ accepted s → readMessage s ≡ accepted m
-unfolding write writeFixed messageOf withData
-read-after-write (fixed f) s e = same-read (fixedFrame f .kind) (fixedFrame f .bytes) s (fixed f) e (fixed-back f)
-read-after-write (zoneStatus zs) s e =
-    same-read 0x16 (zoneBytes zs) s (zoneStatus zs) e (every-zones (λ r. r ≡ zoneStatus zs) (zoneBytes zs) (λ _ _. ap zoneStatus (zones-back zs)))
-read-after-write (events es) s e =
-    same-read 0x23 (eventBytes es) s (events es) e (every-events (λ r. r ≡ events es) (eventBytes es) (λ _. ap events (events-back es)))
-read-after-write (messageStatus ts) s e =
-    let p = passed (not (eqb (length ts % 4) 0)) 7 (writeMessage 0x25 (0 ∷ textBytes ts)) s e in
-    let four : length ts % 4 ≡ 0 = eqb-true (length ts % 4) 0 (not-false (eqb (length ts % 4) 0) (p .0)) in
-    same-read 0x25 (0 ∷ textBytes ts) s (messageStatus ts) (p .1)
-    (every-texts (λ r. r ≡ messageStatus ts) (0 ∷ textBytes ts) (λ _ _. ap messageStatus (texts-back ts four)))
+unfolding write
+read-after-write m s e = typed-read-after-write (counted m) (itemBytes m) s e .0 ∙ ap accepted (items-back m s e)
 
 -- ---- what is read writes back
 
@@ -72,6 +107,11 @@ read-after-write (messageStatus ts) s e =
 module _ (kind : ℕ) (d : List ℕ) (bytes : T (areBytes d)) where
   abbrev Back : Message → Type 0
   Back m = write m ≡ writeMessage kind d
+
+  -- a list's data bytes that are these
+  items-written : (k size : ℕ) (items : List ℕ) → items ≡ d → length d ≡ size → writeItems k size items ≡ writeMessage k d
+  unfolding writeItems
+  items-written k size items same right = ap (writeItems k size) same ∙ sym (passes 7 (writeMessage k d) refl (eq-eqb (length d) size right))
 
   plain-back : (f : Fixed) → fixedFrame f ≡ record { kind = kind; bytes = [] } → length d ≡ 0 → Back (fixed f)
   unfolding write writeFixed
@@ -85,22 +125,32 @@ module _ (kind : ℕ) (d : List ℕ) (bytes : T (areBytes d)) where
   unfolding write writeFixed
   request-back is two = sym (ap₂ writeMessage is (two-of d two))
 
-  zones-written : kind ≡ 0x16 → length d % 2 ≡ 0 → zonesListed d ≡ true → Back (zoneStatus (zones d))
+  zones-written : kind ≡ zoneStatusType → length d % 2 ≡ 0 → zonesListed d ≡ true → Back (zoneStatus (zones d))
   unfolding write
-  zones-written is even listed = sym (ap₂ writeMessage is (sym (zones-encoded d even listed)))
+  zones-written is even listed =
+      let same : zoneBytes (zones d) ≡ d = zones-encoded d even listed in
+      let size : length d ≡ 2 * length (zones d) = omega (arith, pairs-length zoneOf d) in
+      items-written zoneStatusType (2 * length (zones d)) (zoneBytes (zones d)) same size ∙ ap (λ (k : ℕ). writeMessage k d) (sym is)
 
-  events-written : kind ≡ 0x23 → length d % 2 ≡ 0 → Back (events (words d))
+  events-written : kind ≡ eventsType → length d % 2 ≡ 0 → Back (events (words d))
   unfolding write
-  events-written is even = sym (ap₂ writeMessage is (sym (events-encoded d bytes even)))
+  events-written is even =
+      let same : eventBytes (words d) ≡ d = events-encoded d bytes even in
+      let size : length d ≡ 2 * length (words d) = omega (arith, pairs-length wordOf d) in
+      items-written eventsType (2 * length (words d)) (eventBytes (words d)) same size ∙ ap (λ (k : ℕ). writeMessage k d) (sym is)
 
-  texts-written : kind ≡ 0x25 → statusLength (length d) ≡ true → getD d 0 0 ≡ 0 → Back (messageStatus (texts (drop 1 d)))
+  texts-written : kind ≡ messageStatusType → statusLength (length d) ≡ true → getD d 0 0 ≡ 0 → Back (messageStatus (texts (drop 1 d)))
   unfolding write statusLength
   texts-written is listed blank =
+      let ts = texts (drop 1 d) in
       let some : length d ≡ 0 → ⊥ = λ none. never (sym (ap statusLength none) ∙ listed) in
-      let fours : length (texts (drop 1 d)) % 4 ≡ 0 = omega (arith, texts-length (drop 1 d)) in
-      sym (passes 7 (writeMessage 0x25 (0 ∷ textBytes (texts (drop 1 d)))) refl (eq-eqb (length (texts (drop 1 d)) % 4) 0 fours))
-      ∙ ap₂ writeMessage (sym is)
-      (ap {B = List ℕ} (λ x. 0 ∷ x) (texts-encoded (drop 1 d) (drop-bytes 1 d bytes)) ∙ leading d blank some)
+      let fours : length ts % 4 ≡ 0 = omega (arith, texts-length (drop 1 d)) in
+      let same : 0 ∷ textBytes ts ≡ d =
+      ap {B = List ℕ} (λ x. 0 ∷ x) (texts-encoded (drop 1 d) (drop-bytes 1 d bytes)) ∙ leading d blank some in
+      let size : length d ≡ 1 + length ts / 4 = omega (arith, some, texts-length (drop 1 d), length-drop 1 d) in
+      sym (passes 7 (writeItems messageStatusType (1 + length ts / 4) (0 ∷ textBytes ts)) refl (eq-eqb (length ts % 4) 0 fours))
+      ∙ items-written messageStatusType (1 + length ts / 4) (0 ∷ textBytes ts) same size
+      ∙ ap (λ (k : ℕ). writeMessage k d) (sym is)
 
   -- parameter 2 of the log entry and P2 of a command, in the two bytes that they came from
   last-two : (k j : ℕ) → (getD d k 0 * 256 + getD d j 0) / 256 ∷ (getD d k 0 * 256 + getD d j 0) % 256 ∷ [] ≡ getD d k 0 ∷ getD d j 0 ∷ []

@@ -5,7 +5,7 @@ use Rattle.answer.specs.Packed.{packed}
 use Rattle.host.proofs.messages.omnilink_text_message.Statement.{statement}
 use Rattle.host.proofs.messages.omnilink_text_message.Tie as tie
 use Rattle.host.specs.Messages.{textFields}
-use Rattle.message.specs.declared.items.TextMessage.{TextMessage}
+use Rattle.message.specs.declared.lists.TextMessage.{TextMessage}
 
 text-message-requires : tie.Need-text-message-requires
 text-message-requires c κs = search needs

@@ -5,7 +5,7 @@ use Rattle.answer.specs.Answer.{accepted}
 use Rattle.message.proofs.Laws.Lists.{past-pairs, pair-item}
 use Rattle.message.proofs.item.event_at.Statement.{statement}
 use Rattle.message.proofs.item.event_at.Tie as tie
-use Rattle.message.specs.Items.{wordOf}
+use Rattle.message.specs.Lists.{wordOf}
 
 returns : tie.Need-returns
 returns c =

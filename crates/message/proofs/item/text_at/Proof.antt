@@ -8,7 +8,7 @@ use Rattle.answer.specs.Answer.{accepted}
 use Rattle.message.proofs.Laws.Lists.{past-texts, text-item}
 use Rattle.message.proofs.item.text_at.Statement.{statement}
 use Rattle.message.proofs.item.text_at.Tie as tie
-use Rattle.message.specs.Items.{textOf}
+use Rattle.message.specs.Lists.{textOf}
 use Rattle.message.specs.Parts.{twoBits}
 
 returns : tie.Need-returns

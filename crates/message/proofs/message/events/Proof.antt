@@ -7,7 +7,7 @@ use Rattle.answer.proofs.Laws.Decided.{decided}
 use Rattle.message.proofs.Laws.Lists.{pairs-length}
 use Rattle.message.proofs.message.events.Statement.{statement}
 use Rattle.message.proofs.message.events.Tie as tie
-use Rattle.message.specs.Items.{wordOf}
+use Rattle.message.specs.Lists.{wordOf}
 use Rattle.message.specs.Message.{readEvents}
 
 returns : tie.Need-returns

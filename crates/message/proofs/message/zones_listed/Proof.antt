@@ -6,7 +6,7 @@ use native.Mathlib.Omega.{arith}
 use Rattle.message.proofs.Laws.Lists.{zones-step, zones-end}
 use Rattle.message.proofs.message.zones_listed.Statement.{statement}
 use Rattle.message.proofs.message.zones_listed.Tie as tie
-use Rattle.message.specs.Items.{zonesListed, zoneListed}
+use Rattle.message.specs.Lists.{zonesListed, zoneListed}
 
 abbrev Inv-loop : tie.InvT-loop
 Inv-loop d i₀ i = (i ≤ length d) × ((length d - i) % 2 ≡ 0) × (zonesListed d ≡ zonesListed (drop i d))

@@ -7,8 +7,8 @@ use Rattle.message.proofs.typed.write.Tie as tie
 enum-known-m : tie.Need-enum-known-m
 enum-known-m c = search needs
 
-write-fixed-requires : tie.Need-write-fixed-requires
-write-fixed-requires c κs = search needs
+write-alone-requires : tie.Need-write-alone-requires
+write-alone-requires c κs = search needs
 
 enum-known-m-2 : tie.Need-enum-known-m-2
 enum-known-m-2 c = search needs
@@ -37,14 +37,8 @@ write-items-requires-2 c κs = search needs
 enum-known-m-4 : tie.Need-enum-known-m-4
 enum-known-m-4 c = search needs
 
-cast-write-items-3 : tie.Need-cast-write-items-3
-cast-write-items-3 c = search needs
-
-add-write-items : tie.Need-add-write-items
-add-write-items c = search needs
-
-write-items-requires-3 : tie.Need-write-items-requires-3
-write-items-requires-3 c κs = search needs
+write-texts-requires : tie.Need-write-texts-requires
+write-texts-requires c κs = search needs
 
 same-length : tie.Need-same-length
 same-length c = search needs
@@ -53,8 +47,8 @@ returns : tie.Need-returns
 returns c =
     let at = c .before .before .before .before .before in
     let a = at .before .before .before .before .args in
-    leaves-same-case (length (a .out .now)) (a .m) _ (a .items .now) (a .out .now) _ _ (at .m .given .1)
-    (c .before .before .write-fixed .ensures .0) (c .before .before .write-fixed .ensures .1)
+    leaves-same-case (length (a .out .now)) (a .m) _ (a .«data» .now) (a .out .now) _ _ (at .m .given .1)
+    (c .before .before .write-alone .ensures .0) (c .before .before .write-alone .ensures .1)
 
 same-length-2 : tie.Need-same-length-2
 same-length-2 c = search needs
@@ -63,7 +57,7 @@ returns-2 : tie.Need-returns-2
 returns-2 c =
     let at = c .before .before .before .before .before in
     let a = at .before .before .before .before .args in
-    leaves-same-case (length (a .out .now)) (a .m) _ (a .items .now) (a .out .now) _ _ (at .m2 .given .1)
+    leaves-same-case (length (a .out .now)) (a .m) _ (a .«data» .now) (a .out .now) _ _ (at .m2 .given .1)
     (c .before .before .write-items .ensures .0) (c .before .before .write-items .ensures .1)
 
 same-length-3 : tie.Need-same-length-3
@@ -73,7 +67,7 @@ returns-3 : tie.Need-returns-3
 returns-3 c =
     let at = c .before .before .before .before .before in
     let a = at .before .before .before .before .args in
-    leaves-same-case (length (a .out .now)) (a .m) _ (a .items .now) (a .out .now) _ _ (at .m3 .given .1)
+    leaves-same-case (length (a .out .now)) (a .m) _ (a .«data» .now) (a .out .now) _ _ (at .m3 .given .1)
     (c .before .before .write-items2 .ensures .0) (c .before .before .write-items2 .ensures .1)
 
 same-length-4 : tie.Need-same-length-4
@@ -83,15 +77,15 @@ returns-4 : tie.Need-returns-4
 returns-4 c =
     let at = c .before .before .before .before .before in
     let a = at .before .before .before .before .args in
-    leaves-same-case (length (a .out .now)) (a .m) _ (a .items .now) (a .out .now) _ _ (at .m4 .given .1)
-    (c .before .before .write-items3 .ensures .0) (c .before .before .write-items3 .ensures .1)
+    leaves-same-case (length (a .out .now)) (a .m) _ (a .«data» .now) (a .out .now) _ _ (at .m4 .given .1)
+    (c .before .before .write-texts .ensures .0) (c .before .before .write-texts .ensures .1)
 
 pub write-spec : {M : Type 1} → statement M
 write-spec =
     tie.close
     (tie.spec
     enum-known-m
-    write-fixed-requires
+    write-alone-requires
     enum-known-m-2
     cast-write-items
     mul-write-items
@@ -101,9 +95,7 @@ write-spec =
     mul-write-items-2
     write-items-requires-2
     enum-known-m-4
-    cast-write-items-3
-    add-write-items
-    write-items-requires-3
+    write-texts-requires
     same-length
     returns
     same-length-2

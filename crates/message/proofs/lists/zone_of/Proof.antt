@@ -1,8 +1,8 @@
 use Prim.Native.Nat.{_/_, _%_}
 use borrow.Author.Needs.{needs}
 use lib.Dec.{eqb}
-use Rattle.message.proofs.items.zone_of.Statement.{statement}
-use Rattle.message.proofs.items.zone_of.Tie as tie
+use Rattle.message.proofs.lists.zone_of.Statement.{statement}
+use Rattle.message.proofs.lists.zone_of.Tie as tie
 
 condition-of-requires : tie.Need-condition-of-requires
 condition-of-requires c κs = search needs

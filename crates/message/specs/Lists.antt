@@ -1,16 +1,26 @@
--- Document 01, "Omni-Link messages": the items of types 16, 23 and 25.
+-- Document 01, "Omni-Link messages": the types that carry a list, 16, 23 and 25, and their items.
 use Prim.Native.Nat.{ℕ, _+_, _*_, _/_, _%_}
 use mathlib.Core.Bool.{Bool, true, cond, not, _&&_}
 use mathlib.Core.List.{List, [], _∷_}
 use lib.Dec.{eqb, ltb}
-use Rattle.message.specs.declared.items.Condition.{Condition}
-use Rattle.message.specs.declared.items.Condition.the-variants as Condition
-use Rattle.message.specs.declared.items.LatchedAlarm.{LatchedAlarm}
-use Rattle.message.specs.declared.items.LatchedAlarm.the-variants as LatchedAlarm
-use Rattle.message.specs.declared.items.Arming.{Arming}
-use Rattle.message.specs.declared.items.Arming.the-variants as Arming
-use Rattle.message.specs.declared.items.Zone.{Zone}
-use Rattle.message.specs.declared.items.TextMessage.{TextMessage}
+use Rattle.message.specs.declared.lists.Condition.{Condition}
+use Rattle.message.specs.declared.lists.Condition.the-variants as Condition
+use Rattle.message.specs.declared.lists.LatchedAlarm.{LatchedAlarm}
+use Rattle.message.specs.declared.lists.LatchedAlarm.the-variants as LatchedAlarm
+use Rattle.message.specs.declared.lists.Arming.{Arming}
+use Rattle.message.specs.declared.lists.Arming.the-variants as Arming
+use Rattle.message.specs.declared.lists.Zone.{Zone}
+use Rattle.message.specs.declared.lists.TextMessage.{TextMessage}
+
+-- 16 zone status, 23 events, 25 message status
+abbrev pub zoneStatusType : ℕ
+zoneStatusType = 0x16
+
+abbrev pub eventsType : ℕ
+eventsType = 0x23
+
+abbrev pub messageStatusType : ℕ
+messageStatusType = 0x25
 
 -- status bits 0-1: secure, not ready, trouble
 abbrev pub conditionOf : ℕ → Condition
@@ -61,10 +71,11 @@ zonesListed [] = true
 zonesListed (s ∷ []) = true
 zonesListed (s ∷ r ∷ d) = zoneListed s && zonesListed d
 
--- events, high byte first
+-- a word of two bytes, high byte first
 abbrev pub wordOf : ℕ → ℕ → ℕ
 wordOf hi lo = hi * 256 + lo
 
+-- events, a word each
 abbrev pub words : List ℕ → List ℕ
 words d = pairs wordOf d
 

@@ -1,7 +1,13 @@
-// The items of the messages that hold a list: zones (16), events (23), text messages (25).
+// The types that carry a list, and their items: zones, events, text messages.
 ghost use mathlib.Core.Path.{_≡_};
 ghost use Prim.Native.Nat.{_+_, _*_, _/_, _%_};
-ghost use Rattle.message.specs.Items.{conditionOf, latchedOf, armingOf, zoneOf, zoneListed, textOf};
+ghost use Rattle.message.specs.Lists.{conditionOf, latchedOf, armingOf, zoneOf, zoneListed, textOf};
+
+pub const ZONE_STATUS: u8 = 0x16;
+
+pub const EVENTS: u8 = 0x23;
+
+pub const MESSAGE_STATUS: u8 = 0x25;
 
 // Status bits 0 and 1.
 pub enum Condition {
