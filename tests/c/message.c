@@ -95,13 +95,13 @@ static uint64_t plain_read(const uint8_t *s, size_t n)
     return r ? r : (uint64_t)s[2] << 8 | (uint64_t)items << 16;
 }
 
-/* An item call's refusals: the reader's, 6 another type, 8 an index past the last. */
+/* An item call's refusals: the reader's, then 8 for another type and for an index past the last. */
 static unsigned item_refusal(const uint8_t *s, size_t n, uint8_t type, size_t i)
 {
     unsigned items;
     unsigned r = message_refusal(s, n, &items);
     if (r) return r;
-    if (s[2] != type) return 6;
+    if (s[2] != type) return 8;
     return i < (type == 0x0E ? 9 : type == 0x0F ? 1 : items) ? 0 : 8;
 }
 

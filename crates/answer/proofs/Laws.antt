@@ -1,4 +1,5 @@
 pub mod Decided
 pub mod Output
+pub mod Packed
 pub mod Table
 pub mod Test

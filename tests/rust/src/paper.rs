@@ -161,7 +161,7 @@ pub fn message_write(kind: u8, data: &[u8], room: usize) -> Answer<Vec<u8>> {
 
 fn message_of(own: u8, bytes: &[u8]) -> Answer<&[u8]> {
     let (kind, data) = message_read(bytes)?;
-    require(kind == own, UNKNOWN)?;
+    require(kind == own, FIELD)?;
     Ok(data)
 }
 

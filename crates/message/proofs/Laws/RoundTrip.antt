@@ -55,6 +55,17 @@ same-read kind d s m e back =
     let c = carried kind d s e in
     reads-written kind d s e ∙ c .1 ∙ ap accepted (back (c .0) (c .1))
 
+-- what is written for a type and data bytes is read as the message that they carry
+pub read-after-write-bytes : (kind : ℕ) (d s : List ℕ) → writeMessage kind d ≡ accepted s
+    → (m : Message) × (messageOf kind d ≡ accepted m) × (readMessage s ≡ accepted m)
+read-after-write-bytes kind d s e =
+    let c = carried kind d s e in
+    (c .0, c .1, reads-written kind d s e ∙ c .1)
+
+pub read-after-write-fixed : (f : Fixed) (s : List ℕ) → writeFixed f ≡ accepted s → readMessage s ≡ accepted (fixed f)
+unfolding writeFixed
+read-after-write-fixed f s e = same-read (fixedFrame f .kind) (fixedFrame f .bytes) s (fixed f) e (fixed-back f)
+
 -- a list's message by its data bytes
 list-read : (kind size : ℕ) (d s : List ℕ) (m : Message) → writeItems kind size d ≡ accepted s → ((r : Message) → messageOf kind d ≡ accepted r → r ≡ m)
     → (length d ≡ size) × (readMessage s ≡ accepted m)
@@ -64,21 +75,21 @@ list-read kind size d s m e back =
     (eqb-true (length d) size (p .0), same-read kind d s m (p .1) back)
 
 -- what the typed writer writes reads back as the message and the items that it was given
-pub typed-read-after-write : (m : Counted) (d s : List ℕ) → writeCounted m d ≡ accepted s
+pub read-after-write-typed : (m : Counted) (d s : List ℕ) → writeCounted m d ≡ accepted s
     → (readMessage s ≡ accepted (withList m d)) × (counted (withList m d) ≡ m)
 unfolding writeFixed messageOf withData
-typed-read-after-write (C.Fixed f) d s e =
+read-after-write-typed (C.Fixed f) d s e =
     let p = passed-not (eqb (length d) 0) 7 (writeFixed f) s e in
-    (same-read (fixedFrame f .kind) (fixedFrame f .bytes) s (fixed f) (p .1) (fixed-back f), refl)
-typed-read-after-write (C.ZoneStatus n) d s e =
+    (read-after-write-fixed f s (p .1), refl)
+read-after-write-typed (C.ZoneStatus n) d s e =
     let r = list-read zoneStatusType (2 * n) d s (zoneStatus (zones d)) e (every-zones (λ r. r ≡ zoneStatus (zones d)) d (λ _ _. refl)) in
     let size : length (zones d) ≡ n = omega (arith, pairs-length zoneOf d) in
     (r .1, ap C.ZoneStatus size)
-typed-read-after-write (C.Events n) d s e =
+read-after-write-typed (C.Events n) d s e =
     let r = list-read eventsType (2 * n) d s (events (words d)) e (every-events (λ r. r ≡ events (words d)) d (λ _. refl)) in
     let size : length (words d) ≡ n = omega (arith, pairs-length wordOf d) in
     (r .1, ap C.Events size)
-typed-read-after-write (C.MessageStatus n) d s e =
+read-after-write-typed (C.MessageStatus n) d s e =
     let p = passed-not (eqb (n % 4) 0) 7 (writeItems messageStatusType (1 + n / 4) d) s e in
     let r =
     list-read messageStatusType (1 + n / 4) d s (messageStatus (texts (drop 1 d))) (p .1)
@@ -99,7 +110,7 @@ items-back (messageStatus ts) s e =
 
 pub read-after-write : (m : Message) (s : List ℕ) → write m ≡ accepted s → readMessage s ≡ accepted m
 unfolding write
-read-after-write m s e = typed-read-after-write (counted m) (itemBytes m) s e .0 ∙ ap accepted (items-back m s e)
+read-after-write m s e = read-after-write-typed (counted m) (itemBytes m) s e .0 ∙ ap accepted (items-back m s e)
 
 -- ---- what is read writes back
 

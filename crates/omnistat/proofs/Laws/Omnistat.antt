@@ -65,26 +65,25 @@ first-of-address Host first e =
 
 -- what is written for a type and data bytes is read as the message that they name
 pub read-after-write-bytes : (end : End) (address kind : ℕ) (payload bytes : List ℕ) → writeBytes end address kind payload ≡ accepted bytes
-    → read end bytes ≡ onAccepted (addressed address) (asMessage end kind payload)
+    → (m : Message end) × (asMessage end kind payload ≡ accepted m) × (read end bytes ≡ accepted (addressed address m))
 unfolding writeBytes
 read-after-write-bytes end address kind payload bytes e =
     let f : Frame = record { first = firstOf end address; kind = kind; payload = payload } in
     let p = then-accepted (asMessage end kind payload) (λ m. refuseIf (not (directed end (firstOf end address))) 8 (accepted (bytesOf f))) bytes e in
     let q = passed-not (directed end (firstOf end address)) 8 (accepted (bytesOf f)) bytes (p .2) in
     let k : kind < 16 = subst (λ (n : ℕ). n < 16) (told end kind payload (p .0) (p .1) .0) (kind-fits end (p .0)) in
+    let r =
     ap (read end) (sym (same (q .1)))
     ∙ read-whole end (bytesOf f) f (sym (read-back end f (q .0) k))
-    ∙ ap (λ (a : ℕ). onAccepted (addressed a) (asMessage end kind payload)) (address-of-first end address)
+    ∙ ap (λ (a : ℕ). onAccepted (addressed a) (asMessage end kind payload)) (address-of-first end address) in
+    (p .0, p .1, r ∙ ap (onAccepted (addressed address)) (p .1))
 
 -- what is written is read back as the same message
 pub read-after-write : (end : End) (address : ℕ) (m : Message end) (bytes : List ℕ) → write end address m ≡ accepted bytes
     → read end bytes ≡ accepted (addressed address m)
-unfolding writeBytes
 read-after-write end address m bytes e =
-    let f : Frame = record { first = firstOf end address; kind = bodyOf end m .kind; payload = bodyOf end m .payload } in
-    let p = then-accepted (asMessage end (bodyOf end m .kind) (bodyOf end m .payload)) (λ n. refuseIf (not (directed end (firstOf end address))) 8 (accepted (bytesOf f))) bytes e in
-    read-after-write-bytes end address (bodyOf end m .kind) (bodyOf end m .payload) bytes e
-    ∙ ap (onAccepted (addressed address)) (p .1 ∙ ap accepted (sym (again end m (p .0) (p .1))))
+    let r = read-after-write-bytes end address (bodyOf end m .kind) (bodyOf end m .payload) bytes e in
+    r .2 ∙ ap (λ (x : Message end). accepted (addressed address x)) (sym (again end m (r .0) (r .1)))
 
 -- the bytes of a frame are written for its type and data bytes, where these name a message
 written-again : (end : End) (f : Frame) (m : Message end) → asMessage end (f .kind) (f .payload) ≡ accepted m → directed end (f .first) ≡ true
