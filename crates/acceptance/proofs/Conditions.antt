@@ -1,13 +1,71 @@
 -- Condition 2 holds: each part is the theorem of its crate. Assumes nothing.
+use mathlib.Core.Path.{_≡_, refl, sym, ap, subst, _∙_}
+use mathlib.Core.Bool.{true}
+use mathlib.Core.List.{List}
+use Prim.Native.Nat.{ℕ}
+use Rattle.answer.specs.Answer.{accepted, onAccepted}
 use Rattle.link.proofs.Laws.RoundTrip as Frames
 use Rattle.message.proofs.Laws.RoundTrip as Messages
+use Rattle.message.proofs.Laws.Listed.{zone-item, event-item, text-item, log-item, command-item, other-type}
+use Rattle.message.specs.Message.{fixed}
+use Rattle.message.specs.Typed.{withList}
 use Rattle.omnistat.proofs.Laws.Omnistat as Omnistat
+use Rattle.omnistat.specs.declared.frame.End.the-variants.{Thermostat}
+use Rattle.omnistat.specs.Message.{Request, setFrom}
+use Rattle.omnistat.specs.Omnistat.{Addressed, addressed, read}
 use Rattle.x10.proofs.Laws.ReadAfterWrite as PatternsBack
 use Rattle.x10.proofs.Laws.WriteAfterRead as Patterns
-use Rattle.thermostat.proofs.Laws.Set.{set-stores, set-leaves-the-others, set-stores-none}
+use Rattle.x10.specs.Pattern.{function}
+use Rattle.thermostat.specs.Step.{Done, step, changed}
+use Rattle.thermostat.proofs.Laws.Set.{set-stores, set-leaves-the-others, set-stores-none, another-address-leaves, poll-leaves, length-left}
+use Rattle.thermostat.proofs.Laws.Temperature as Temperatures
 use Rattle.tally.proofs.Laws.Run.{exact}
 use Rattle.listing.proofs.Laws.Faithful.{faithful}
-use Rattle.acceptance.specs.Conditions.{Condition-2}
+use Rattle.acceptance.specs.Conditions.{Condition-2, Messages-read-back, Items, Step-leaves}
+
+messages : Messages-read-back
+messages = record {
+  by-bytes = Messages.read-after-write-bytes;
+  by-fixed = λ f s e. (fixed f, refl, Messages.read-after-write-fixed f s e);
+  by-typed = λ m d s e. (withList m d, refl, Messages.read-after-write-typed m d s e .0);
+  typed-count = λ m d s e. Messages.read-after-write-typed m d s e .1;
+  with-lists = record {
+    read-back = λ m s any e. Messages.read-after-write m s e;
+    write-back = λ s m t e. Messages.write-after-read s m t e;
+  };
+}
+
+items : (s : List ℕ) → Items s
+items s = record {
+  zone = zone-item s;
+  event = event-item s;
+  text-message = text-item s;
+  log-field = log-item s;
+  command = command-item s;
+  another-type = other-type s;
+}
+
+module _ (own : ℕ) (m s : List ℕ) (room : ℕ) (d : Done) (first : ℕ) (q : Request) (e : step own m s room ≡ accepted d)
+    (r : read Thermostat s ≡ accepted (addressed first q)) where
+  -- a message that sets nothing
+  polled : (p : Request) → q ≡ p → changed m p ≡ m → d .map ≡ m
+  polled p is same = poll-leaves own m s room d e first q r (ap (changed m) is ∙ same)
+
+  set-read : (start : ℕ) (values : List ℕ) → q ≡ setFrom start values → read Thermostat s ≡ accepted (addressed first (setFrom start values))
+  set-read start values is = r ∙ ap (λ (x : Request). accepted (addressed first x)) is
+
+  steps : Step-leaves own first q m (d .map)
+  steps = record {
+    same-length = length-left own m s room d e first q r;
+    another-address = another-address-leaves own m s room d e first q r;
+    polled = λ start count is. polled _ is refl;
+    group-polled = λ g is. polled _ is refl;
+    register-write = λ start values is f. record {
+      stores = set-stores own m s room d e first start values (set-read start values is) f;
+      leaves-the-others = set-leaves-the-others own m s room d e first start values (set-read start values is) f;
+      stores-none = set-stores-none own m s room d e first start values (set-read start values is) f;
+    };
+  }
 
 pub condition-2 : Condition-2
 condition-2 = record {
@@ -15,23 +73,24 @@ condition-2 = record {
     read-back = λ f s any e. Frames.read-after-write (f .kind) (f .bytes) s e;
     write-back = λ s f t e. Frames.write-after-read s f t e;
   };
-  messages = record {
-    read-back = λ m s any e. Messages.read-after-write m s e;
-    write-back = λ s m t e. Messages.write-after-read s m t e;
-  };
+  messages = messages;
+  items = items;
   omnistat2 = λ end. record {
     read-back = λ a s any e. Omnistat.read-after-write end (a .address) (a .message) s e;
     write-back = λ s a any e. Omnistat.write-after-read end (a .address) (a .message) s e;
   };
+  omnistat2-by-bytes = λ end address kind payload s e.
+    let b = Omnistat.read-after-write-bytes end address kind payload s e in
+    (addressed address (b .0), ap (onAccepted (addressed address)) (b .1), b .2);
   patterns = record {
     read-back = λ m ps b e. PatternsBack.read-after-write m ps b e;
     write-back = λ ps m any e. Patterns.write-after-read ps m e;
   };
-  register-write = λ own m s room d first start values e r f. record {
-    stores = set-stores own m s room d e first start values r f;
-    leaves-the-others = set-leaves-the-others own m s room d e first start values r f;
-    stores-none = set-stores-none own m s room d e first start values r f;
-  };
+  functions-by-code = λ house code ps e.
+    let b = PatternsBack.read-after-write-code house code ps e in
+    (function house (b .0), ap (onAccepted (function house)) (b .1), b .2);
+  steps = steps;
+  temperatures = record { byte-back = Temperatures.read-after-write; degrees-back = Temperatures.write-after-read };
   exact-sum = exact;
   listing = faithful;
 }

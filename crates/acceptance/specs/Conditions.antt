@@ -1,37 +1,72 @@
--- The buyer's condition 2, in one place, over all formats. Condition 3 is `Condition-3` in crate link.
+-- The buyer's condition 2, in one place, over all formats and the writers and readers that callers have. Condition 3 is `Condition-3` in
+-- crate link.
 use Prim.Native.Nat.{ℕ, _+_, _<_, _≤_}
 use mathlib.Core.Path.{_≡_}
 use mathlib.Core.Bool.{true, false}
 use mathlib.Core.List.{List}
 use mathlib.Core.Logic.{_⊎_}
 use lib.Dec.{T}
+use lib.Ieee.{Float, eq}
 use lib.ListN.{length, getD}
 use lib.Pow.{areBytes}
-use Rattle.answer.specs.Answer.{Outcome, accepted}
+use Rattle.answer.specs.Answer.{Outcome, refused, accepted, onAccepted}
 use Rattle.link.specs.Frame.{readFrame, writeFrame}
-use Rattle.message.specs.Message.{readMessage}
+use Rattle.message.specs.Item.{frameOf, itemAt, zoneItem, eventItem, textItem, logFields, logItem, commandItem}
+use Rattle.message.specs.Message.{Message, fixed, zoneStatus, events, messageStatus, messageOf, readMessage, writeMessage, counted}
 use Rattle.message.specs.Typed as Messages
+use Rattle.message.specs.declared.command.Command.{Command}
+use Rattle.message.specs.declared.lists.TextMessage.{TextMessage}
+use Rattle.message.specs.declared.lists.Zone.{Zone}
+use Rattle.message.specs.declared.log.LogEntry.{LogEntry}
+use Rattle.message.specs.declared.message.Fixed.{Fixed}
+use Rattle.message.specs.declared.message.Fixed.the-variants as F
+use Rattle.message.specs.declared.message.Message.{Message as Counted}
 use Rattle.omnistat.specs.declared.frame.End.{End}
 use Rattle.omnistat.specs.declared.frame.End.the-variants.{Thermostat}
-use Rattle.omnistat.specs.Message.{setFrom}
+use Rattle.omnistat.specs.declared.group.Group.{Group}
+use Rattle.omnistat.specs.Message.{Request, poll, setFrom, pollGroup, asMessage}
 use Rattle.omnistat.specs.Omnistat as Omnistat
 use Rattle.thermostat.specs.Map.{content}
 use Rattle.thermostat.specs.Step.{Done, step, isFor, allSettable}
+use Rattle.thermostat.specs.Temperature.{celsius, byteOf}
 use Rattle.tally.specs.Run.{Call, Promised, totalFound, sumAccepted}
+use Rattle.x10.specs.Codes.{functionOf}
 use Rattle.x10.specs.Pattern as X10
 use Rattle.listing.specs.Lines.{lines}
 use Rattle.listing.specs.Faithful.{Faithful}
 
 -- what is written reads back as the same message, and what is read writes back to the same bytes, for the messages and bytes of a format
-pub record Inverse {M : Type 0} (read : List ℕ → Outcome M) (write : M → Outcome (List ℕ)) (messages : M → Type 0) (sent : List ℕ → Type 0) : Type 0 where
-  pub read-back : (m : M) (s : List ℕ) → messages m → write m ≡ accepted s → read s ≡ accepted m
-  pub write-back : (s : List ℕ) (m : M) → sent s → read s ≡ accepted m → write m ≡ accepted s
+pub record Inverse {M : Type 0} (read : List ℕ → Outcome M) (write : M → Outcome (List ℕ)) (Written : M → Type 0) (Sent : List ℕ → Type 0) : Type 0 where
+  pub read-back : (m : M) (s : List ℕ) → Written m → write m ≡ accepted s → read s ≡ accepted m
+  pub write-back : (s : List ℕ) (m : M) → Sent s → read s ≡ accepted m → write m ≡ accepted s
 
-abbrev pub any : {A : Type 0} → A → Type 0
-any a = Unit {0}
+abbrev pub Any : {A : Type 0} → A → Type 0
+Any a = Unit {0}
 
-abbrev pub bytes : List ℕ → Type 0
-bytes s = T (areBytes s)
+abbrev pub Bytes : List ℕ → Type 0
+Bytes s = T (areBytes s)
+
+-- what a writer accepts stands for a message, and reads back as that message
+abbrev pub ReadsBack : {M : Type 0} → (List ℕ → Outcome M) → Outcome M → Outcome (List ℕ) → Type 0
+ReadsBack {M} read given written = (s : List ℕ) → written ≡ accepted s → (m : M) × (given ≡ accepted m) × (read s ≡ accepted m)
+
+-- Omni-Link messages: the writers on a type and data bytes, on a message of fixed length, and on a typed message with the data bytes of its
+-- list, whose count is then the one given; and both directions for messages with their lists
+pub record Messages-read-back : Type 0 where
+  pub by-bytes : (kind : ℕ) (d : List ℕ) → ReadsBack readMessage (messageOf kind d) (writeMessage kind d)
+  pub by-fixed : (f : Fixed) → ReadsBack readMessage (accepted (fixed f)) (Messages.writeFixed f)
+  pub by-typed : (m : Counted) (d : List ℕ) → ReadsBack readMessage (accepted (Messages.withList m d)) (Messages.writeCounted m d)
+  pub typed-count : (m : Counted) (d s : List ℕ) → Messages.writeCounted m d ≡ accepted s → counted (Messages.withList m d) ≡ m
+  pub with-lists : Inverse readMessage Messages.write Any Bytes
+
+-- item i of a message that was read is item i of its list; the frame of a message of another type is refused before an item is looked up
+pub record Items (s : List ℕ) : Type 0 where
+  pub zone : (zs : List Zone) (i : ℕ) → readMessage s ≡ accepted (zoneStatus zs) → zoneItem i s ≡ itemAt zs i
+  pub event : (es : List ℕ) (i : ℕ) → readMessage s ≡ accepted (events es) → eventItem i s ≡ itemAt es i
+  pub text-message : (ts : List TextMessage) (i : ℕ) → readMessage s ≡ accepted (messageStatus ts) → textItem i s ≡ itemAt ts i
+  pub log-field : (e : LogEntry) (i : ℕ) → readMessage s ≡ accepted (fixed (F.LogEntry e)) → logItem i s ≡ itemAt (logFields e) i
+  pub command : (c : Command) → readMessage s ≡ accepted (fixed (F.Command c)) → commandItem s ≡ accepted c
+  pub another-type : (kind : ℕ) (m : Message) → (Messages.kindOf (counted m) ≡ kind → ⊥) → readMessage s ≡ accepted m → frameOf kind s ≡ refused 8
 
 -- a set of registers from a start on, at a map m, leaves a map: the addressed registers changed and no others, or none
 pub record Set-leaves (m : List ℕ) (start : ℕ) (values after : List ℕ) : Type 0 where
@@ -39,13 +74,30 @@ pub record Set-leaves (m : List ℕ) (start : ℕ) (values after : List ℕ) : T
   pub leaves-the-others : allSettable start values ≡ true → (r : ℕ) → (r < start) ⊎ (start + length values ≤ r) → content after r ≡ content m r
   pub stores-none : allSettable start values ≡ false → after ≡ m
 
+-- what a thermostat's step with a message leaves of its map: its length; all of it after a poll and after a message for another address
+pub record Step-leaves (own first : ℕ) (q : Request) (m after : List ℕ) : Type 0 where
+  pub same-length : length after ≡ length m
+  pub another-address : isFor own first ≡ false → after ≡ m
+  pub polled : (start count : ℕ) → q ≡ poll start count → after ≡ m
+  pub group-polled : (g : Group) → q ≡ pollGroup g → after ≡ m
+  pub register-write : (start : ℕ) (values : List ℕ) → q ≡ setFrom start values → isFor own first ≡ true → Set-leaves m start values after
+
+-- a temperature byte goes to degrees and back; what goes back to a byte equals that byte's degrees, as floats are compared
+pub record Temperatures : Type 0 where
+  pub byte-back : (n : ℕ) → n < 256 → byteOf (celsius n) ≡ accepted n
+  pub degrees-back : (x : Float) (n : ℕ) → byteOf x ≡ accepted n → (n < 256) × (eq x (celsius n) ≡ true)
+
 pub record Condition-2 : Type 0 where
-  pub frames : Inverse readFrame (λ f. writeFrame (f .kind) (f .bytes)) any bytes
-  pub messages : Inverse readMessage Messages.write any bytes
-  pub omnistat2 : (end : End) → Inverse (Omnistat.read end) (λ a. Omnistat.write end (a .address) (a .message)) any any
-  pub patterns : Inverse X10.read X10.write X10.Bytes any
-  pub register-write : (own : ℕ) (m s : List ℕ) (room : ℕ) (d : Done) (first start : ℕ) (values : List ℕ)
-      → step own m s room ≡ accepted d → Omnistat.read Thermostat s ≡ accepted (Omnistat.addressed first (setFrom start values))
-      → isFor own first ≡ true → Set-leaves m start values (d .map)
+  pub frames : Inverse readFrame (λ f. writeFrame (f .kind) (f .bytes)) Any Bytes
+  pub messages : Messages-read-back
+  pub items : (s : List ℕ) → Items s
+  pub omnistat2 : (end : End) → Inverse (Omnistat.read end) (λ a. Omnistat.write end (a .address) (a .message)) Any Any
+  pub omnistat2-by-bytes : (end : End) (address kind : ℕ) (payload : List ℕ)
+      → ReadsBack (Omnistat.read end) (onAccepted (Omnistat.addressed address) (asMessage end kind payload)) (Omnistat.writeBytes end address kind payload)
+  pub patterns : Inverse X10.read X10.write X10.Bytes Any
+  pub functions-by-code : (house code : ℕ) → ReadsBack X10.read (onAccepted (X10.function house) (functionOf code)) (X10.writeFunctionCode house code)
+  pub steps : (own : ℕ) (m s : List ℕ) (room : ℕ) (d : Done) (first : ℕ) (q : Request)
+      → step own m s room ≡ accepted d → Omnistat.read Thermostat s ≡ accepted (Omnistat.addressed first q) → Step-leaves own first q m (d .map)
+  pub temperatures : Temperatures
   pub exact-sum : (calls : List Call) → Promised 0 calls → totalFound 0 calls ≡ sumAccepted calls
   pub listing : (s : List ℕ) → Faithful s (lines s)

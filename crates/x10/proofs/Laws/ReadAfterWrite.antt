@@ -14,7 +14,7 @@ use Rattle.x10.specs.Codes.{codeAt, indexOf, houseCode, unitCode, functi
 use Rattle.x10.specs.Places.{arePlaces, startCode, paired, bits, spelled}
 use Rattle.x10.specs.Pattern.{Message, Bytes, unit, function, extended, ending, readFunction, readKey, read, standard, extension, write, writeFunctionCode}
 use Rattle.x10.proofs.Laws.Bits.{bits-places, paired-places, spelled-bits}
-use Rattle.x10.proofs.Laws.Codes.{index-of-code, code-small, function-found, found-code, code-below, code-plain}
+use Rattle.x10.proofs.Laws.Codes.{index-of-code, code-small, function-found, code-below, code-plain}
 use Rattle.answer.proofs.Laws.Test.{passed, same, then-accepted}
 use Rattle.x10.proofs.Laws.Pattern.{ends, read-on, key-unit, key-function, function-known, function-extended, rest-read}
 
@@ -136,8 +136,8 @@ read-after-write (extended h u d c) ps b e =
 
 -- a function by its code
 pub read-after-write-code : (house code : ℕ) (ps : List ℕ) → writeFunctionCode house code ≡ accepted ps
-    → (f : Function) × (functionCode f ≡ code) × (read ps ≡ accepted (function house f))
+    → (f : Function) × (functionOf code ≡ accepted f) × (read ps ≡ accepted (function house f))
 unfolding writeFunctionCode
 read-after-write-code house code ps e =
     let x = then-accepted (functionOf code) (λ f. write (function house f)) ps e in
-    (x .0, found-code code (x .0) (x .1), read-after-write (function house (x .0)) ps tt (x .2))
+    (x .0, x .1, read-after-write (function house (x .0)) ps tt (x .2))
