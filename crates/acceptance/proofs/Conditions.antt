@@ -80,15 +80,15 @@ condition-2 = record {
     write-back = λ s a any e. Omnistat.write-after-read end (a .address) (a .message) s e;
   };
   omnistat2-by-bytes = λ end address kind payload s e.
-    let b = Omnistat.read-after-write-bytes end address kind payload s e in
-    (addressed address (b .0), ap (onAccepted (addressed address)) (b .1), b .2);
+      let b = Omnistat.read-after-write-bytes end address kind payload s e in
+      (addressed address (b .0), ap (onAccepted (addressed address)) (b .1), b .2);
   patterns = record {
     read-back = λ m ps b e. PatternsBack.read-after-write m ps b e;
     write-back = λ ps m any e. Patterns.write-after-read ps m e;
   };
   functions-by-code = λ house code ps e.
-    let b = PatternsBack.read-after-write-code house code ps e in
-    (function house (b .0), ap (onAccepted (function house)) (b .1), b .2);
+      let b = PatternsBack.read-after-write-code house code ps e in
+      (function house (b .0), ap (onAccepted (function house)) (b .1), b .2);
   steps = steps;
   temperatures = record { byte-back = Temperatures.read-after-write; degrees-back = Temperatures.write-after-read };
   exact-sum = exact;

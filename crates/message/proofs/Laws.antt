@@ -4,6 +4,7 @@ pub mod Decode
 pub mod Duration
 pub mod Encode
 pub mod Encoded
+pub mod Fault
 pub mod Framed
 pub mod Item
 pub mod Kinds

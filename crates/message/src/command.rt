@@ -1,7 +1,7 @@
 // Type 0F, command: command number, P1, P2 high, P2 low.
+use crate::lists;
 use answer::Refusal;
 ghost use mathlib.Core.Path.{_≡_};
-ghost use Prim.Native.Nat.{_+_, _*_};
 ghost use Rattle.message.specs.Command.{durationListed, durationOf, commandListed, commandOf, commandRead, checkedCommand, readCommand};
 
 // How long a unit stays off or on, as P1: 0; 1 to 99; 101 to 199; 201 to 218.
@@ -59,7 +59,7 @@ fn duration_of(p1: u8) -> Duration
 }
 
 // Whether a command number and its parameters are in the list.
-fn command_listed(number: u8, p1: u8, p2: u16) -> bool
+pub(crate) fn command_listed(number: u8, p1: u8, p2: u16) -> bool
     ensures { λ r. ⌜ r ≡ commandListed number p1 p2 ⌝ }
 {
     if number == 2 {
@@ -126,13 +126,6 @@ fn command_of(number: u8, p1: u8, p2: u16) -> Command
     }
 }
 
-// A word of two bytes, high byte first.
-pub(crate) fn word(hi: u8, lo: u8) -> u16
-    ensures { λ r. ⌜ r ≡ hi * 256 + lo ⌝ }
-{
-    hi as u16 * 256 + lo as u16
-}
-
 // The command of a number and its parameters.
 fn checked(number: u8, p1: u8, p2: u16) -> CommandRead
     ensures { λ r. ⌜ commandRead r ≡ checkedCommand number p1 p2 ⌝ }
@@ -150,5 +143,5 @@ pub fn read(data: &[u8]) -> CommandRead
     if data.len() != 4 {
         return CommandRead::Refused(Refusal::TypeLength);
     }
-    checked(data[0], data[1], word(data[2], data[3]))
+    checked(data[0], data[1], lists::word(data[2], data[3]))
 }

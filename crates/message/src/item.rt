@@ -1,12 +1,11 @@
 // Items of messages: of data bytes that carry a list, and of whole messages by their bytes.
+use crate::check;
 use crate::command::CommandRead;
 use crate::lists;
 use crate::lists::TextMessage;
 use crate::lists::Zone;
 use crate::log::LogEntry;
 use crate::log::LogRead;
-use crate::message;
-use crate::message::MessageRead;
 use answer::Refusal;
 use link::frame::FrameRead;
 ghost use mathlib.Core.Path.{_≡_};
@@ -16,6 +15,7 @@ ghost use Rattle.link.specs.Frame.{header, outcomeOf};
 ghost use Rattle.message.specs.Command.{commandRead};
 ghost use Rattle.message.specs.Lists.{zones, words, texts};
 ghost use Rattle.message.specs.Log.{readLog};
+ghost use Rattle.message.specs.Message.{messageOf};
 ghost use Rattle.message.specs.Parts.{headerOf, twoBits};
 ghost use Rattle.message.specs.Item.{frameOf, itemAt, zoneItem, eventItem, textItem, logFields, logItem, commandItem, zoneRead, wordRead, textRead};
 
@@ -51,7 +51,7 @@ fn event_at(data: &[u8], i: usize) -> WordRead
     if data.len() / 2 <= i {
         return WordRead::Refused(Refusal::Field);
     }
-    WordRead::Accepted(crate::command::word(data[2 * i], data[2 * i + 1]))
+    WordRead::Accepted(lists::word(data[2 * i], data[2 * i + 1]))
 }
 
 // The two bits of message k of the four in a byte, the lowest-numbered in the high bits.
@@ -125,18 +125,25 @@ fn of_kind(wanted: u8, kind: u8, count: u8) -> FrameRead
     FrameRead::Accepted { kind, count }
 }
 
+// The header of a type and its data bytes, so many: 6, 7, 8, then 8 for another type.
+fn checked_header(wanted: u8, kind: u8, count: u8, data: &[u8]) -> FrameRead
+    ensures { λ r. ⌜ outcomeOf r ≡ andThen (messageOf kind (now («data» .entry))) (λ m. headerOf wanted kind count) ⌝ }
+{
+    let fault = check::fault(kind, data);
+    if fault != check::NONE {
+        return FrameRead::Refused(check::refusal(fault));
+    }
+    of_kind(wanted, kind, count)
+}
+
 // The header of a whole message of a type.
 fn header_of(bytes: &[u8], wanted: u8) -> FrameRead
     ensures { λ r. ⌜ outcomeOf r ≡ onAccepted header (frameOf wanted (now (bytes .entry))) ⌝ }
 {
     match link::frame::read(bytes) {
-        FrameRead::Accepted { kind, count } => match message::of_data(
-            kind,
-            link::frame::data(bytes, count),
-        ) {
-            MessageRead::Accepted(_) => of_kind(wanted, kind, count),
-            MessageRead::Refused(r) => FrameRead::Refused(r),
-        },
+        FrameRead::Accepted { kind, count } => {
+            checked_header(wanted, kind, count, link::frame::data(bytes, count))
+        }
         FrameRead::Refused(r) => FrameRead::Refused(r),
     }
 }

@@ -1,4 +1,5 @@
 // Omni-Link messages (document 01, "Omni-Link messages"): typed reading and writing above frames.
+mod check;
 pub mod command;
 pub mod item;
 pub mod lists;

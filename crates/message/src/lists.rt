@@ -1,7 +1,6 @@
 // The types that carry a list, and their items: zones, events, text messages.
 ghost use mathlib.Core.Path.{_≡_};
-ghost use Prim.Native.Nat.{_+_, _*_, _/_, _%_};
-ghost use Rattle.message.specs.Lists.{conditionOf, latchedOf, armingOf, zoneOf, zoneListed, textOf};
+ghost use Rattle.message.specs.Lists.{conditionOf, latchedOf, armingOf, zoneOf, zoneListed, textOf, wordOf};
 
 pub const ZONE_STATUS: u8 = 0x16;
 
@@ -122,4 +121,11 @@ pub(crate) fn text_of(bits: u8) -> TextMessage
         displayed: bits % 2 == 1,
         not_acknowledged: bits / 2 % 2 == 1,
     }
+}
+
+// A word of two bytes, high byte first.
+pub(crate) fn word(hi: u8, lo: u8) -> u16
+    ensures { λ r. ⌜ r ≡ wordOf hi lo ⌝ }
+{
+    hi as u16 * 256 + lo as u16
 }

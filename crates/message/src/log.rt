@@ -1,4 +1,5 @@
 // Type 0E, log entry.
+use crate::lists;
 use answer::Refusal;
 ghost use mathlib.Core.Path.{_≡_};
 ghost use lib.ListN.{length};
@@ -46,7 +47,7 @@ fn calendar_listed(month: u8, day: u8, hour: u8, minute: u8) -> bool
 }
 
 // Whether the fields of an entry are in their lists.
-fn log_listed(e: LogEntry) -> bool
+pub(crate) fn log_listed(e: LogEntry) -> bool
     ensures { λ r. ⌜ r ≡ logListed e ⌝ }
 {
     if e.number < 1 {
@@ -58,7 +59,7 @@ fn log_listed(e: LogEntry) -> bool
     calendar_listed(e.month, e.day, e.hour, e.minute)
 }
 
-fn log_of(data: &[u8]) -> LogEntry
+pub(crate) fn log_of(data: &[u8]) -> LogEntry
     requires { ⌜ length (now «data») ≡ 10 ⌝ }
     ensures { λ r. ⌜ r ≡ logOf (now («data» .entry)) ⌝ }
 {
@@ -71,7 +72,7 @@ fn log_of(data: &[u8]) -> LogEntry
         minute: data[5],
         event_type: data[6],
         parameter_1: data[7],
-        parameter_2: crate::command::word(data[8], data[9]),
+        parameter_2: lists::word(data[8], data[9]),
     }
 }
 

@@ -1,4 +1,5 @@
 // Every message type: reading a frame's type and data bytes, and whole frames.
+use crate::check;
 use crate::command::Command;
 use crate::command::CommandRead;
 use crate::lists;
@@ -13,10 +14,12 @@ ghost use Prim.Native.Nat.{_%_, _≤_};
 ghost use lib.Dec.{eqb};
 ghost use lib.ListN.{length, getD};
 ghost use Rattle.answer.specs.Answer.{accepted, refuseIf, onAccepted, inRoom, outAfter, writtenOf};
+ghost use Rattle.answer.specs.Packed.{packed};
 ghost use Rattle.message.specs.Command.{readCommand};
 ghost use Rattle.message.specs.Lists.{zonesListed};
 ghost use Rattle.message.specs.Log.{readLog};
-ghost use Rattle.message.specs.Message.{digitsListed, orderListed, readPlain, readLogin, readZoneRequest, readZoneStatus, readEvents, readMessageStatus, withData, messageOf, readMessage, writeMessage, counted, messageRead};
+ghost use Rattle.message.specs.Message.{digitsListed, orderListed, statusLength, readPlain, readLogin, readZoneRequest, readZoneStatus, readEvents, readMessageStatus, withData, messageOf, readMessage, writeMessage, counted, messageRead};
+ghost use Rattle.message.specs.Typed.{messageFields};
 
 // The messages of fixed length: those without data (05, 06, 0D, 11, 13, 21, 22), 20, 15, 0E and 0F.
 pub enum Fixed {
@@ -65,7 +68,7 @@ fn plain(f: Fixed, data: &[u8]) -> MessageRead
 }
 
 // Whether four digits are each 00 to 09.
-fn digits_listed(first: u8, second: u8, third: u8, fourth: u8) -> bool
+pub(crate) fn digits_listed(first: u8, second: u8, third: u8, fourth: u8) -> bool
     ensures { λ r. ⌜ r ≡ digitsListed first second third fourth ⌝ }
 {
     if 9 < first {
@@ -102,7 +105,7 @@ fn login(data: &[u8]) -> MessageRead
 }
 
 // Whether a first and a last zone are in order.
-fn order_listed(first: u8, last: u8) -> bool
+pub(crate) fn order_listed(first: u8, last: u8) -> bool
     ensures { λ r. ⌜ r ≡ orderListed first last ⌝ }
 {
     if first < 1 {
@@ -126,7 +129,7 @@ fn zone_request(data: &[u8]) -> MessageRead
 }
 
 // Whether each status byte of pairs is in the list.
-fn zones_listed(data: &[u8]) -> bool
+pub(crate) fn zones_listed(data: &[u8]) -> bool
     requires { ⌜ length (now «data») % 2 ≡ 0 ⌝ }
     ensures { λ r. ⌜ r ≡ zonesListed (now («data» .entry)) ⌝ }
 {
@@ -186,6 +189,19 @@ fn status_of(data: &[u8], count: u8) -> MessageRead
         return MessageRead::Refused(Refusal::Field);
     }
     MessageRead::Accepted(Message::MessageStatus { count })
+}
+
+// Whether a message status has so many data bytes.
+pub(crate) fn status_length(n: usize) -> bool
+    ensures { λ r. ⌜ r ≡ statusLength n ⌝ }
+{
+    if n == 5 {
+        return true;
+    }
+    if n == 17 {
+        return true;
+    }
+    n == 33
 }
 
 fn message_status(data: &[u8]) -> MessageRead
@@ -287,13 +303,38 @@ pub fn read(bytes: &[u8]) -> MessageRead
     }
 }
 
+// The packed answer for a type and its data bytes, so many.
+fn packed_data(kind: u8, count: u8, data: &[u8]) -> u64
+    requires { ⌜ length (now «data») ≡ count ⌝ }
+    ensures { λ r. ⌜ r ≡ packed (onAccepted (λ m. messageFields (counted m)) (messageOf kind (now («data» .entry)))) ⌝ }
+{
+    let fault = check::fault(kind, data);
+    if fault != check::NONE {
+        return fault as u64;
+    }
+    answer::pack_2_bytes(kind, check::items_in(kind, count))
+}
+
+// Reads a byte string as a whole message and makes none of it: packed for C, its type and the count of its items.
+pub fn read_packed(bytes: &[u8]) -> u64
+    ensures { λ r. ⌜ r ≡ packed (onAccepted (λ m. messageFields (counted m)) (readMessage (now (bytes .entry)))) ⌝ }
+{
+    match link::frame::read(bytes) {
+        FrameRead::Accepted { kind, count } => {
+            packed_data(kind, count, link::frame::data(bytes, count))
+        }
+        FrameRead::Refused(r) => answer::pack_refusal(r),
+    }
+}
+
 // Writes the message of a type and data bytes: 6, 7, 8, then 9.
 pub fn write(kind: u8, data: &[u8], out: &mut [u8]) -> Written
     ensures { λ r. ⌜ writtenOf r ≡ onAccepted length (inRoom (length (now (out .entry))) (writeMessage kind (now («data» .entry)))) ⌝ }
     ensures { λ _. ⌜ now (out .exit) ≡ outAfter (inRoom (length (now (out .entry))) (writeMessage kind (now («data» .entry)))) (now (out .entry)) ⌝ }
 {
-    match of_data(kind, data) {
-        MessageRead::Accepted(_) => link::frame::write(kind, data, out),
-        MessageRead::Refused(r) => Written::Refused(r),
+    let fault = check::fault(kind, data);
+    if fault != check::NONE {
+        return Written::Refused(check::refusal(fault));
     }
+    link::frame::write(kind, data, out)
 }

@@ -9,6 +9,7 @@ use lib.ListN.{length}
 use borrow.Author.Tests.{eq-eqb}
 use Rattle.answer.specs.Answer.{Outcome, refused, accepted, refuseIf, onAccepted}
 use Rattle.answer.proofs.Laws.Test.{on-accepted, still-refused}
+use Rattle.message.specs.Parts.{faultOf}
 
 module _ {A : Type 0} (n : ℕ) (later : Outcome A) {t listed : Bool} (is : t ≡ listed) where
   pub refuses : t ≡ false → refused n ≡ refuseIf (not listed) n later
@@ -27,6 +28,13 @@ module _ {A B : Type 0} (f : A → B) (d : List ℕ) (size : ℕ) (a : A) (right
 
   pub fields-taken : t ≡ true → accepted (f a) ≡ onAccepted f (refuseIf (not (eqb (length d) size)) 7 (refuseIf (not listed) 8 (accepted a)))
   fields-taken e = ap (onAccepted f) (passes 8 (accepted a) is e ∙ behind-size)
+
+  -- and by the number of its fault
+  pub fault-refused : t ≡ false → 8 ≡ faultOf (refuseIf (not (eqb (length d) size)) 7 (refuseIf (not listed) 8 (accepted a)))
+  fault-refused e = ap faultOf (refuses 8 (accepted a) is e ∙ behind-size)
+
+  pub fault-taken : t ≡ true → 0 ≡ faultOf (refuseIf (not (eqb (length d) size)) 7 (refuseIf (not listed) 8 (accepted a)))
+  fault-taken e = ap faultOf (passes 8 (accepted a) is e ∙ behind-size)
 
 -- what is done of what is accepted may be done behind the check
 pub behind-check : {A B : Type 0} (f : A → B) (t : Bool) (n : ℕ) (later : Outcome A)
@@ -52,3 +60,8 @@ never e = let z : _≡_ {A = ℕ} 0 1 = ap (λ t. cond t 1 0) e in let nothing :
 pub both : {a b : Bool} → (a && b) ≡ true → (a ≡ true) × (b ≡ true)
 both {a = true} e = (refl, e)
 both {a = false} e = never e
+
+-- the fault is the same, whatever is made of what is accepted
+pub on-fault : {A B : Type 0} (f : A → B) (o : Outcome A) → faultOf o ≡ faultOf (onAccepted f o)
+on-fault f (refused n) = refl
+on-fault f (accepted a) = refl

@@ -7,10 +7,9 @@ use lib.Dec.{eqb}
 use lib.ListN.{length}
 use borrow.Author.Tests.{eq-eqb, ne-eqb}
 use Rattle.answer.specs.Answer.{Outcome, refused, accepted, refuseIf, andThen, onAccepted, inRoom, outAfter}
-use Rattle.link.specs.Frame.{Frame, Header, header, readFrame, writeFrame, dataPart}
+use Rattle.link.specs.Frame.{Frame, Header, header, readFrame, dataPart}
 use Rattle.link.proofs.Laws.Whole.{data-part}
 use Rattle.message.specs.Typed.{writeCounted}
-use Rattle.message.specs.Message.{Message, messageOf, writeMessage, counted}
 use Rattle.message.specs.declared.message.Message.{Message as Counted}
 use Rattle.message.proofs.Laws.Checked.{was-accepted, was-refused}
 
@@ -28,17 +27,12 @@ module _ (s : List ℕ) (o : Outcome Frame) (was-read : (f : Frame) → o ≡ ac
 pub unframed : {A : Type 0} (o : Outcome Frame) (m : ℕ) (g : Frame → Outcome A) → refused m ≡ onAccepted header o → andThen o g ≡ refused m
 unframed o m g e = ap (λ (x : Outcome Frame). andThen x g) (was-refused header o m e)
 
--- what a writer does behind the checks
-module _ (kind : ℕ) (d : List ℕ) (room : ℕ) where
-  pub frame-written : (c : Counted) → accepted c ≡ onAccepted counted (messageOf kind d) → inRoom room (writeMessage kind d) ≡ inRoom room (writeFrame kind d)
-  unfolding writeMessage
-  frame-written c e =
-      ap (λ (o : Outcome Message). inRoom room (andThen o (λ m. writeFrame kind d))) (was-accepted counted (messageOf kind d) c e .1)
-
-  pub nothing-written : (n : ℕ) → refused n ≡ onAccepted counted (messageOf kind d) → inRoom room (writeMessage kind d) ≡ refused n
-  unfolding writeMessage
-  nothing-written n e =
-      ap (λ (o : Outcome Message). inRoom room (andThen o (λ m. writeFrame kind d))) (was-refused counted (messageOf kind d) n e)
+-- the data part of a frame that was read has as many bytes as its header says
+pub part-length : (s : List ℕ) (k n : ℕ) → accepted (record { kind = k; count = n }) ≡ onAccepted header (readFrame s) → length (dataPart s n) ≡ n
+part-length s k n e =
+    let w = was-accepted header (readFrame s) (record { kind = k; count = n }) e in
+    let count : n ≡ length (w .0 .bytes) = ap (λ (h : Header). h .count) (w .2) in
+    ap (λ (m : ℕ). length (dataPart s m)) count ∙ ap length (data-part s (w .0) (w .1)) ∙ sym count
 
 -- what a call below leaves is what the call above leaves, where their outcomes are the same
 pub leaves-same : (o below : Outcome (List ℕ)) (old final : List ℕ) (w : Outcome ℕ) → o ≡ below

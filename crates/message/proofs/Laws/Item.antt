@@ -10,12 +10,9 @@ use Rattle.answer.specs.declared.Refusal.{Refusal}
 use Rattle.link.specs.Frame.{Frame, Header, header, readFrame, outcomeOf, dataPart}
 use Rattle.link.specs.declared.frame.FrameRead.{FrameRead}
 use Rattle.link.specs.declared.frame.FrameRead.the-variants.{Accepted, Refused}
-use Rattle.message.specs.Message.{Message, messageOf, readMessage, counted, messageRead}
+use Rattle.message.specs.Message.{Message, messageOf, readMessage}
 use Rattle.message.specs.Item.{frameOf, itemOf}
 use Rattle.message.specs.Parts.{headerOf}
-use Rattle.message.specs.declared.message.Message.{Message as Counted}
-use Rattle.message.specs.declared.message.MessageRead.{MessageRead}
-use Rattle.message.specs.declared.message.MessageRead.the-variants as M
 use Rattle.message.proofs.Laws.Checked.{was-accepted, was-refused, behind-check}
 use Rattle.message.proofs.Laws.Framed.{framed, unframed}
 
@@ -47,12 +44,12 @@ module _ (wanted : ℕ) (s : List ℕ) where
       (sym (was-refused header (readFrame s) (numberOf e) (sym (ap outcomeOf is) ∙ read)))
 
   module _ (r : FrameRead) (read : outcomeOf r ≡ onAccepted header (readFrame s)) (k n : ℕ) (is : r ≡ Accepted k n) (d : List ℕ) (part : d ≡ dataPart s n) where
-    behind : (o : Outcome Message) → messageOf k d ≡ o
-        → onAccepted header (frameOf wanted s) ≡ andThen o (λ m. headerOf wanted k n)
+    pub header-behind : onAccepted header (frameOf wanted s) ≡ andThen (messageOf k d) (λ m. headerOf wanted k n)
     unfolding frameOf readMessage
-    behind o h =
+    header-behind =
+        let o = messageOf k d in
         let e = sym (ap outcomeOf is) ∙ read in
-        let of-message : readMessage s ≡ o = framed s (readFrame s) (λ f q. q) k n messageOf e ∙ sym (ap (messageOf k) part) ∙ h in
+        let of-message : readMessage s ≡ o = framed s (readFrame s) (λ f q. q) k n messageOf e ∙ sym (ap (messageOf k) part) in
         ap (λ (x : Outcome Message). onAccepted header (andThen x (λ m. andThen (readFrame s) (ofKind wanted)))) of-message
         ∙ last (was-accepted header (readFrame s) (record { kind = k; count = n }) e) o
       where
@@ -64,15 +61,6 @@ module _ (wanted : ℕ) (s : List ℕ) where
             ap (λ (x : Outcome Frame). onAccepted header (andThen x (ofKind wanted))) (w .1)
             ∙ behind-check header (not (eqb (w .0 .kind) wanted)) 8 (accepted (w .0))
             ∙ ap (λ (x : Header). refuseIf (not (eqb (x .kind) wanted)) 8 (accepted x)) (sym (w .2))
-
-    module _ (x : MessageRead) (told : messageRead x ≡ onAccepted counted (messageOf k d)) where
-      pub header-read : (c : Counted) → x ≡ M.Accepted c → headerOf wanted k n ≡ onAccepted header (frameOf wanted s)
-      header-read c is =
-          let w = was-accepted counted (messageOf k d) c (sym (ap messageRead is) ∙ told) in
-          sym (behind (accepted (w .0)) (w .1))
-
-      pub header-refused : (e : Refusal) → x ≡ M.Refused e → refused (numberOf e) ≡ onAccepted header (frameOf wanted s)
-      header-refused e is = sym (behind (refused (numberOf e)) (was-refused counted (messageOf k d) (numberOf e) (sym (ap messageRead is) ∙ told)))
 
 -- what an item call answers, from the header and from what is found in the data part
 module _ {A : Type 0} (wanted : ℕ) (look : List ℕ → Outcome A) (s : List ℕ) (r : FrameRead) (headed : outcomeOf r ≡ onAccepted header (frameOf wanted s)) where

@@ -1,17 +1,19 @@
 -- The readers by type: what leads to each answer. Assumes nothing.
 use mathlib.Core.Path.{_≡_, refl, sym, ap, _∙_}
-use mathlib.Core.Bool.{Bool, true, false, not}
+use mathlib.Core.Bool.{Bool, true, false, not, cond}
 use mathlib.Core.List.{List}
-use Prim.Native.Nat.{ℕ, _+_, _*_, _/_, _%_, _≤_}
+use Prim.Native.Nat.{ℕ, zero, suc, _+_, _*_, _/_, _%_, _≤_, _<_}
 use native.Mathlib.Omega.{arith}
 use lib.Dec.{eqb}
 use lib.ListN.{length, getD, drop, length-drop}
 use borrow.Author.Tests.{eq-eqb, ne-eqb, le-ltb}
 use Rattle.answer.specs.Answer.{refused, accepted, refuseIf, onAccepted}
 use Rattle.message.specs.Lists.{zoneOf, zones, zonesListed, texts}
-use Rattle.message.specs.Message.{zoneStatus, messageStatus, statusLength, readZoneStatus, readMessageStatus, withData, messageOf, counted}
+use Rattle.message.specs.Message.{fixed, zoneStatus, messageStatus, statusLength, readPlain, readZoneStatus, readMessageStatus, withData, messageOf, counted}
+use Rattle.message.specs.Parts.{faultOf, plainFault}
+use Rattle.message.specs.declared.message.Fixed.{Fixed}
 use Rattle.message.specs.declared.message.Message.the-variants as C
-use Rattle.message.proofs.Laws.Checked.{refuses, passes, behind-check}
+use Rattle.message.proofs.Laws.Checked.{refuses, passes, behind-check, never}
 use Rattle.message.proofs.Laws.Lists.{pairs-length, texts-length}
 
 -- zone status, once the length is right
@@ -29,6 +31,37 @@ module _ (d : List ℕ) (even : length d % 2 ≡ 0) (some : length d ≡ 0 → �
         ap (λ (n : ℕ). accepted (C.ZoneStatus n)) (sym (pairs-length zoneOf d))
         ∙ ap (onAccepted counted) (passes 8 (accepted (zoneStatus (zones d))) is e ∙ sym by-zones)
 
+    pub zones-fault : t ≡ false → 8 ≡ faultOf (readZoneStatus d)
+    zones-fault e = ap faultOf (refuses 8 (accepted (zoneStatus (zones d))) is e ∙ sym by-zones)
+
+    pub zones-faultless : t ≡ true → 0 ≡ faultOf (readZoneStatus d)
+    zones-faultless e = ap faultOf (passes 8 (accepted (zoneStatus (zones d))) is e ∙ sym by-zones)
+
+-- message status, once the length is right
+module _ (d : List ℕ) {t : Bool} (is : t ≡ statusLength (length d)) (right : t ≡ true) where
+  pub status-some : 0 < length d
+  unfolding statusLength
+  status-some = some (length d) (sym is ∙ right)
+    where
+      some : (n : ℕ) → statusLength n ≡ true → 0 < n
+      some zero e = never e
+      some (suc n) e = omega arith
+
+  by-status : readMessageStatus d ≡ refuseIf (not (eqb (getD d 0 0) 0)) 8 (accepted (messageStatus (texts (drop 1 d))))
+  unfolding readMessageStatus
+  by-status = sym (passes 7 (refuseIf (not (eqb (getD d 0 0) 0)) 8 (accepted (messageStatus (texts (drop 1 d))))) is right)
+
+  pub status-fault : (getD d 0 0 ≡ 0 → ⊥) → 8 ≡ faultOf (readMessageStatus d)
+  status-fault h = ap faultOf (refuses 8 (accepted (messageStatus (texts (drop 1 d)))) refl (ne-eqb (getD d 0 0) 0 h) ∙ sym by-status)
+
+  pub status-faultless : getD d 0 0 ≡ 0 → 0 ≡ faultOf (readMessageStatus d)
+  status-faultless h = ap faultOf (passes 8 (accepted (messageStatus (texts (drop 1 d)))) refl (eq-eqb (getD d 0 0) 0 h) ∙ sym by-status)
+
+-- and where it is wrong
+pub status-wrong : (d : List ℕ) {t : Bool} → t ≡ statusLength (length d) → t ≡ false → 7 ≡ faultOf (readMessageStatus d)
+unfolding readMessageStatus
+status-wrong d is wrong = ap faultOf (refuses 7 (refuseIf (not (eqb (getD d 0 0) 0)) 8 (accepted (messageStatus (texts (drop 1 d))))) is wrong)
+
 -- message status, at a right length
 pub status-read : (d : List ℕ) (n count : ℕ) → length d ≡ n → statusLength n ≡ true → 4 * n ≡ count + 4
     → refuseIf (not (eqb (getD d 0 0) 0)) 8 (accepted (C.MessageStatus count)) ≡ onAccepted counted (readMessageStatus d)
@@ -40,6 +73,15 @@ status-read d n count e listed four =
     ap (λ (k : ℕ). refuseIf t 8 (accepted (C.MessageStatus k))) size
     ∙ sym (behind-check counted t 8 (accepted (messageStatus (texts (drop 1 d)))))
     ∙ ap (onAccepted counted) (passes 7 (refuseIf t 8 (accepted (messageStatus (texts (drop 1 d))))) refl (ap statusLength e ∙ listed))
+
+-- a type without data
+pub plain-fault : (f : Fixed) (d : List ℕ) → plainFault d ≡ faultOf (readPlain f d)
+unfolding readPlain
+plain-fault f d = by (eqb (length d) 0)
+  where
+    by : (t : Bool) → cond t 0 7 ≡ faultOf (refuseIf (not t) 7 (accepted (fixed f)))
+    by true = refl
+    by false = refl
 
 -- the types that are not those tested
 module _ (kind : ℕ) (d : List ℕ) where
