@@ -5,15 +5,11 @@ use message::command::Duration;
 use message::item::TextRead;
 use message::item::WordRead;
 use message::item::ZoneRead;
-use message::lists;
 use message::lists::Arming;
 use message::lists::Condition;
 use message::lists::LatchedAlarm;
 use message::lists::TextMessage;
 use message::lists::Zone;
-use message::message::Fixed;
-use message::message::Message;
-use message::message::MessageRead;
 ghost use mathlib.Core.Path.{_≡_};
 ghost use mathlib.Core.List.{[], _∷_};
 ghost use lib.ListN.{length};
@@ -21,53 +17,9 @@ ghost use Rattle.answer.specs.Answer.{accepted, onAccepted, inRoom, outAfter};
 ghost use Rattle.answer.specs.Packed.{packed, byte, word};
 ghost use Rattle.message.specs.Command.{commandRead};
 ghost use Rattle.message.specs.Item.{zoneItem, eventItem, textItem, logItem, commandItem, zoneRead, wordRead, textRead};
-ghost use Rattle.message.specs.Message.{counted, readMessage, writeMessage, messageRead};
-ghost use Rattle.message.specs.Typed.{fixedFrame, conditionBits, latchedBits, armingBits, flag};
-ghost use Rattle.host.specs.Messages.{messageFields, zoneFields, wordFields, textFields, durationUnit, durationCount, commandFields};
-
-// The type of a message of fixed length.
-fn fixed_kind(f: Fixed) -> u8
-    ensures { λ n. ⌜ n ≡ fixedFrame f .kind ⌝ }
-{
-    match f {
-        Fixed::Acknowledge => 0x05,
-        Fixed::NegativeAcknowledge => 0x06,
-        Fixed::UploadEventLog => 0x0D,
-        Fixed::RequestSystemInformation => 0x11,
-        Fixed::RequestSystemStatus => 0x13,
-        Fixed::Logout => 0x21,
-        Fixed::RequestSystemEvents => 0x22,
-        Fixed::Login {
-            first: _,
-            second: _,
-            third: _,
-            fourth: _,
-        } => 0x20,
-        Fixed::ZoneRequest { first: _, last: _ } => 0x15,
-        Fixed::LogEntry(_) => 0x0E,
-        Fixed::Command(_) => 0x0F,
-    }
-}
-
-fn packed_message(m: Message) -> u64
-    ensures { λ n. ⌜ n ≡ packed (accepted (messageFields m)) ⌝ }
-{
-    match m {
-        Message::Fixed(f) => answer::pack_2_bytes(fixed_kind(f), 0),
-        Message::ZoneStatus { count } => answer::pack_2_bytes(lists::ZONE_STATUS, count),
-        Message::Events { count } => answer::pack_2_bytes(lists::EVENTS, count),
-        Message::MessageStatus { count } => answer::pack_2_bytes(lists::MESSAGE_STATUS, count),
-    }
-}
-
-fn pack_message(r: MessageRead) -> u64
-    ensures { λ n. ⌜ n ≡ packed (onAccepted messageFields (messageRead r)) ⌝ }
-{
-    match r {
-        MessageRead::Accepted(m) => packed_message(m),
-        MessageRead::Refused(e) => answer::pack_refusal(e),
-    }
-}
+ghost use Rattle.message.specs.Message.{counted, readMessage, writeMessage};
+ghost use Rattle.message.specs.Typed.{messageFields, conditionBits, latchedBits, armingBits, flag};
+ghost use Rattle.host.specs.Messages.{zoneFields, wordFields, textFields, durationUnit, durationCount, commandFields};
 
 fn flag(b: bool) -> u8
     ensures { λ n. ⌜ n ≡ flag b ⌝ }
@@ -215,7 +167,7 @@ fn pack_command(r: CommandRead) -> u64
 pub extern "C" fn omnilink_message_read(bytes: &[u8]) -> u64
     ensures { λ n. ⌜ n ≡ packed (onAccepted (λ m. messageFields (counted m)) (readMessage (now (bytes .entry)))) ⌝ }
 {
-    pack_message(message::message::read(bytes))
+    message::message::read_packed(bytes)
 }
 
 // Bytes written (16).
