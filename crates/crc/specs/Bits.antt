@@ -17,8 +17,3 @@ bitsOf (suc k) n = odd n ∷ bitsOf k (n / 2)
 abbrev pub bitString : List ℕ → List Bool
 bitString [] = []
 bitString (b ∷ bs) = bitsOf 8 b ++ bitString bs
-
--- a bit as a number
-abbrev pub value : Bool → ℕ
-value true = 1
-value false = 0

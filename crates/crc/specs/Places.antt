@@ -1,15 +1,9 @@
 -- The places at which two bit strings differ, and condition 3's bounds on them.
 use Prim.Native.Nat.{ℕ, zero, suc, _+_, _%_, _≤_}
 use mathlib.Core.Path.{_≡_}
-use mathlib.Core.Bool.{Bool, true, false}
+use mathlib.Core.Bool.{Bool, true, false, xor}
 use mathlib.Core.List.{List, [], _∷_}
 use lib.ListN.{length}
-
--- whether two bits differ
-abbrev pub xor : Bool → Bool → Bool
-xor true true = false
-xor true false = true
-xor false b = b
 
 -- where two bit strings differ, bit by bit, as far as both go
 abbrev pub differences : List Bool → List Bool → List Bool

@@ -1,8 +1,9 @@
 -- The C interface's Omni-Link messages: the fields of each packed item, in the header's order.
 use Prim.Native.Nat.{ℕ}
 use mathlib.Core.List.{List, [], _∷_}
+use Rattle.answer.specs.Bit.{bit}
 use Rattle.answer.specs.Packed.{Field, byte, word}
-use Rattle.message.specs.Typed.{conditionBits, latchedBits, armingBits, flag}
+use Rattle.message.specs.Typed.{conditionBits, latchedBits, armingBits}
 use Rattle.message.specs.declared.command.Command.{Command}
 use Rattle.message.specs.declared.command.Command.the-variants as C
 use Rattle.message.specs.declared.command.Duration.{Duration}
@@ -16,7 +17,7 @@ zoneFields z =
     byte (conditionBits (z .condition))
     ∷ byte (latchedBits (z .«latched_alarm»))
     ∷ byte (armingBits (z .arming))
-    ∷ byte (flag (z .«unacknowledged_trouble»))
+    ∷ byte (bit (z .«unacknowledged_trouble»))
     ∷ byte (z .«loop_reading»)
     ∷ []
 
@@ -26,7 +27,7 @@ wordFields w = word w ∷ []
 
 -- a text message: displayed (8), not acknowledged (8)
 abbrev pub textFields : TextMessage → List Field
-textFields t = byte (flag (t .displayed)) ∷ byte (flag (t .«not_acknowledged»)) ∷ []
+textFields t = byte (bit (t .displayed)) ∷ byte (bit (t .«not_acknowledged»)) ∷ []
 
 -- the unit of a duration: 0 none, 1 seconds, 2 minutes, 3 hours
 abbrev pub durationUnit : Duration → ℕ

@@ -14,15 +14,17 @@ ghost use mathlib.Core.Path.{_≡_};
 ghost use mathlib.Core.List.{[], _∷_};
 ghost use lib.ListN.{length};
 ghost use Rattle.answer.specs.Answer.{accepted, onAccepted, inRoom, outAfter};
+ghost use Rattle.answer.specs.Bit.{bit};
 ghost use Rattle.answer.specs.Packed.{packed, byte, word};
 ghost use Rattle.message.specs.Command.{commandRead};
 ghost use Rattle.message.specs.Item.{zoneItem, eventItem, textItem, logItem, commandItem, zoneRead, wordRead, textRead};
 ghost use Rattle.message.specs.Message.{counted, readMessage, writeMessage};
-ghost use Rattle.message.specs.Typed.{messageFields, conditionBits, latchedBits, armingBits, flag};
+ghost use Rattle.message.specs.Typed.{messageFields, conditionBits, latchedBits, armingBits};
 ghost use Rattle.host.specs.Messages.{zoneFields, wordFields, textFields, durationUnit, durationCount, commandFields};
 
-fn flag(b: bool) -> u8
-    ensures { λ n. ⌜ n ≡ flag b ⌝ }
+// A truth value as a number.
+fn bit(b: bool) -> u8
+    ensures { λ n. ⌜ n ≡ bit b ⌝ }
 {
     if b {
         return 1;
@@ -71,7 +73,7 @@ fn packed_zone(z: Zone) -> u64
         condition_bits(condition),
         latched_bits(latched_alarm),
         arming_bits(arming),
-        flag(z.unacknowledged_trouble),
+        bit(z.unacknowledged_trouble),
         z.loop_reading,
     )
 }
@@ -97,7 +99,7 @@ fn pack_word(r: WordRead) -> u64
 fn packed_text(t: TextMessage) -> u64
     ensures { λ n. ⌜ n ≡ packed (accepted (textFields t)) ⌝ }
 {
-    answer::pack_2_bytes(flag(t.displayed), flag(t.not_acknowledged))
+    answer::pack_2_bytes(bit(t.displayed), bit(t.not_acknowledged))
 }
 
 fn pack_text(r: TextRead) -> u64

@@ -1,10 +1,11 @@
 -- Document 01, "Omni-Link messages": writing typed messages.
 use Prim.Native.Nat.{ℕ, _+_, _*_, _/_, _%_}
-use mathlib.Core.Bool.{Bool, true, false, cond, not, _&&_}
+use mathlib.Core.Bool.{cond, not, _&&_}
 use mathlib.Core.List.{List, [], _∷_}
 use lib.Dec.{eqb, leb}
 use lib.ListN.{length, drop}
 use Rattle.answer.specs.Answer.{Outcome, refuseIf}
+use Rattle.answer.specs.Bit.{bit}
 use Rattle.answer.specs.Packed.{Field, byte}
 use Rattle.link.specs.Frame.{Frame}
 use Rattle.message.specs.Lists.{zoneStatusType, eventsType, messageStatusType, zones, words, texts}
@@ -94,12 +95,8 @@ armingBits Arming.Armed = 1
 armingBits Arming.BypassedByUser = 2
 armingBits Arming.BypassedBySystem = 3
 
-abbrev pub flag : Bool → ℕ
-flag true = 1
-flag false = 0
-
 abbrev pub statusByte : Zone → ℕ
-statusByte z = conditionBits (z .condition) + 4 * latchedBits (z .«latched_alarm») + 16 * armingBits (z .arming) + 64 * flag (z .«unacknowledged_trouble»)
+statusByte z = conditionBits (z .condition) + 4 * latchedBits (z .«latched_alarm») + 16 * armingBits (z .arming) + 64 * bit (z .«unacknowledged_trouble»)
 
 abbrev pub zoneBytes : List Zone → List ℕ
 zoneBytes [] = []
@@ -112,7 +109,7 @@ eventBytes (e ∷ es) = e / 256 ∷ e % 256 ∷ eventBytes es
 
 -- the two bits of a text message, and the data bytes of text messages, four a byte
 abbrev pub textBits : TextMessage → ℕ
-textBits t = flag (t .displayed) + 2 * flag (t .«not_acknowledged»)
+textBits t = bit (t .displayed) + 2 * bit (t .«not_acknowledged»)
 
 abbrev pub textBytes : List TextMessage → List ℕ
 textBytes [] = []

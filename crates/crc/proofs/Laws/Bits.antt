@@ -12,7 +12,8 @@ use lib.Ieee.Fits.{and-i, and-l, and-r}
 use lib.ListN.{length, getD, take, drop, length-append, List·getD-append}
 use lib.Pow.{shr-shr, areBytes}
 use lib.Seq.{getD-append-add}
-use Rattle.crc.specs.Bits.{odd, value, bitsOf, bitString}
+use Rattle.answer.specs.Bit.{bit}
+use Rattle.crc.specs.Bits.{odd, bitsOf, bitString}
 use Rattle.crc.proofs.Laws.Feed.{num}
 use Rattle.crc.proofs.Laws.Xor.{low-bit}
 
@@ -30,7 +31,7 @@ bitString-append [] t = refl
 bitString-append (b ∷ s) t = ap (λ (r : List Bool). bitsOf 8 b ++ r) (bitString-append s t)
 
 -- bit k of a number is what k halvings leave, modulo 2
-bit-of : (w n k : ℕ) → k < w → value (getD (bitsOf w n) k false) ≡ n / 2 ^ k % 2
+bit-of : (w n k : ℕ) → k < w → bit (getD (bitsOf w n) k false) ≡ n / 2 ^ k % 2
 bit-of zero n k h = let z : ⊥ = omega arith in absurd z
 bit-of (suc w) n zero h =
     let e : n ≡ n / 1 = omega arith in
@@ -40,31 +41,31 @@ bit-of (suc w) n (suc k) h =
     ∙ ap (λ (m : ℕ). m % 2) (shr-shr n 1 k ∙ ap (λ (j : ℕ). n / 2 ^ j) (one-add k))
 
 -- bit k of a byte string is bit k % 8 of its byte k / 8
-pub bit-at : (s : List ℕ) (k : ℕ) → k < 8 * length s → value (getD (bitString s) k false) ≡ getD s (k / 8) 0 / 2 ^ (k % 8) % 2
+pub bit-at : (s : List ℕ) (k : ℕ) → k < 8 * length s → bit (getD (bitString s) k false) ≡ getD s (k / 8) 0 / 2 ^ (k % 8) % 2
 bit-at [] k h = let z : ⊥ = omega arith in absurd z
 bit-at (b ∷ s) k h = by (λ j l. bit-at s j l) (decLt k 8)
   where
-    near : k < 8 → value (getD (bitString (b ∷ s)) k false) ≡ getD (b ∷ s) (k / 8) 0 / 2 ^ (k % 8) % 2
+    near : k < 8 → bit (getD (bitString (b ∷ s)) k false) ≡ getD (b ∷ s) (k / 8) 0 / 2 ^ (k % 8) % 2
     near l =
         let q : k / 8 ≡ 0 = omega arith in
         let m : k % 8 ≡ k = omega arith in
-        ap value (List·getD-append (bitsOf 8 b) (bitString s) false k l)
+        ap bit (List·getD-append (bitsOf 8 b) (bitString s) false k l)
         ∙ bit-of 8 b k l
         ∙ ap₂ (λ (i j : ℕ). getD (b ∷ s) i 0 / 2 ^ j % 2) (sym q) (sym m)
 
     far : (j : ℕ) → k ≡ 8 + j → j < 8 * length s
-        → value (getD (bitString s) j false) ≡ getD s (j / 8) 0 / 2 ^ (j % 8) % 2
-        → value (getD (bitString (b ∷ s)) k false) ≡ getD (b ∷ s) (k / 8) 0 / 2 ^ (k % 8) % 2
+        → bit (getD (bitString s) j false) ≡ getD s (j / 8) 0 / 2 ^ (j % 8) % 2
+        → bit (getD (bitString (b ∷ s)) k false) ≡ getD (b ∷ s) (k / 8) 0 / 2 ^ (k % 8) % 2
     far j e l ih =
         let q : suc (j / 8) ≡ k / 8 = omega arith in
         let m : j % 8 ≡ k % 8 = omega arith in
-        ap (λ (n : ℕ). value (getD (bitString (b ∷ s)) n false)) e
-        ∙ ap value (getD-append-add (bitsOf 8 b) (bitString s) j false)
+        ap (λ (n : ℕ). bit (getD (bitString (b ∷ s)) n false)) e
+        ∙ ap bit (getD-append-add (bitsOf 8 b) (bitString s) j false)
         ∙ ih
         ∙ ap₂ (λ (i r : ℕ). getD (b ∷ s) i 0 / 2 ^ r % 2) q m
 
-    by : ((j : ℕ) → j < 8 * length s → value (getD (bitString s) j false) ≡ getD s (j / 8) 0 / 2 ^ (j % 8) % 2)
-        → Dec (k < 8) → value (getD (bitString (b ∷ s)) k false) ≡ getD (b ∷ s) (k / 8) 0 / 2 ^ (k % 8) % 2
+    by : ((j : ℕ) → j < 8 * length s → bit (getD (bitString s) j false) ≡ getD s (j / 8) 0 / 2 ^ (j % 8) % 2)
+        → Dec (k < 8) → bit (getD (bitString (b ∷ s)) k false) ≡ getD (b ∷ s) (k / 8) 0 / 2 ^ (k % 8) % 2
     by ih (yes l) = near l
     by ih (no g) =
         far (k - 8) (omega arith) (omega arith) (ih (k - 8) (omega arith))

@@ -1,6 +1,6 @@
 -- The distance theorem: two different strings that the CRC register takes to 0 differ as condition 3 says. Assumes nothing.
 use mathlib.Core.Path.{_≡_, refl, sym, ap, ap₂, _∙_}
-use mathlib.Core.Bool.{Bool, true, false}
+use mathlib.Core.Bool.{Bool, true, false, xor}
 use mathlib.Core.List.{List, [], _∷_, _++_}
 use Prim.Native.Nat.{ℕ, zero, suc, _+_, _*_, _/_, _%_, _^_, _<_, _≤_}
 use native.Mathlib.Decide.{decLt}
@@ -10,9 +10,10 @@ use lib.Dec.{T, ltb→lt, ltb}
 use lib.Ieee.Fits.{and-l, and-r}
 use lib.ListN.{length, take, drop}
 use lib.Pow.{areBytes}
-use Rattle.crc.specs.Bits.{odd, value, bitsOf, bitString}
+use Rattle.answer.specs.Bit.{bit}
+use Rattle.crc.specs.Bits.{odd, bitsOf, bitString}
 use Rattle.crc.specs.Crc.{crc, feed}
-use Rattle.crc.specs.Places.{xor, differences, places, first, last, Apart}
+use Rattle.crc.specs.Places.{differences, places, first, last, Apart}
 use Rattle.crc.specs.Table.{turns}
 use Rattle.crc.proofs.Laws.Bits.{spelled, bitString-length, bitString-append}
 use Rattle.crc.proofs.Laws.Feed.{num, turns-xor, turns-zero, feed-turns, feed-append}
@@ -27,11 +28,11 @@ num-differences [] (b ∷ s) e = let z : ⊥ = omega arith in absurd z
 num-differences (a ∷ r) [] e = let z : ⊥ = omega arith in absurd z
 num-differences (a ∷ r) (b ∷ s) e =
     let shorter : length r ≡ length s = omega arith in
-    ap (λ (n : ℕ). n * 2 + value (xor a b)) (num-differences r s shorter)
-    ∙ ap₂ (λ (n : ℕ) (t : Bool). n * 2 + value t)
+    ap (λ (n : ℕ). n * 2 + bit (xor a b)) (num-differences r s shorter)
+    ∙ ap₂ (λ (n : ℕ) (t : Bool). n * 2 + bit t)
     (ap₂ bitXor (sym (half-digit (num r) a)) (sym (half-digit (num s) b)))
     (ap₂ xor (sym (odd-digit (num r) a)) (sym (odd-digit (num s) b)))
-    ∙ sym (xor-digits (num r * 2 + value a) (num s * 2 + value b))
+    ∙ sym (xor-digits (num r * 2 + bit a) (num s * 2 + bit b))
 
 length-differences : (r s : List Bool) → length r ≡ length s → length (differences r s) ≡ length r
 length-differences [] s e = refl
@@ -40,6 +41,7 @@ length-differences (a ∷ r) (b ∷ s) e = ap suc (length-differences r s (omega
 
 -- with no place they are the same
 same-bit : (a b : Bool) → xor a b ≡ false → a ≡ b
+unfolding xor
 same-bit true true e = refl
 same-bit true false e = e
 same-bit false true e = sym e

@@ -1,36 +1,36 @@
 -- Turns of the register are linear, and feeding bits is the register xor the number that they spell, turned once for each bit.
 -- Assumes nothing.
 use mathlib.Core.Path.{_≡_, refl, sym, ap, ap₂, _∙_}
-use mathlib.Core.Bool.{Bool, true, false}
+use mathlib.Core.Bool.{Bool, true, false, xor}
 use mathlib.Core.List.{List, [], _∷_, _++_}
 use Prim.Native.Nat.{ℕ, zero, suc, _+_, _*_, _/_, _%_, _^_, _<_, _≤_}
 use native.Mathlib.Nat.{add-comm, suc-add, zero-add, mul-mod-left, mul-div-cancel, zero-lt-suc, le-refl}
 use native.Mathlib.Omega.{arith}
 use lib.Bits.{bitXor, xor-comm, xor-zero-r, xor-self, xor-shifted, xor-lt}
 use lib.ListN.{length, length-append}
-use Rattle.crc.specs.Bits.{odd, value, bitsOf, bitString}
+use Rattle.answer.specs.Bit.{bit}
+use Rattle.crc.specs.Bits.{odd, bitsOf, bitString}
 use Rattle.crc.specs.Crc.{shift, feed}
-use Rattle.crc.specs.Places.{xor}
 use Rattle.crc.specs.Table.{turns}
 use Rattle.crc.proofs.Laws.Xor.{low-bit, xor-half, xor-odd, xor-assoc, xor-swap, xor-zero}
 
 -- the number that bits spell, the lowest first
 abbrev pub num : List Bool → ℕ
 num [] = 0
-num (b ∷ bs) = num bs * 2 + value b
+num (b ∷ bs) = num bs * 2 + bit b
 
 -- what a shifted-out bit adds
-carry : (a b : Bool) → value (xor a b) * 0xA001 ≡ bitXor (value a * 0xA001) (value b * 0xA001)
+carry : (a b : Bool) → bit (xor a b) * 0xA001 ≡ bitXor (bit a * 0xA001) (bit b * 0xA001)
+unfolding xor
 carry true true = refl
 carry true false = refl
 carry false true = refl
 carry false false = refl
 
 pub shift-xor : (a b : ℕ) → shift (bitXor a b) ≡ bitXor (shift a) (shift b)
-unfolding shift
 shift-xor a b =
     ap₂ bitXor (xor-half a b)
-    (ap (λ (n : ℕ). n * 0xA001) (low-bit (bitXor a b) ∙ ap value (xor-odd a b)) ∙ carry (odd a) (odd b)
+    (ap (λ (n : ℕ). n * 0xA001) (low-bit (bitXor a b) ∙ ap bit (xor-odd a b)) ∙ carry (odd a) (odd b)
     ∙ ap₂ (λ (x y : ℕ). bitXor (x * 0xA001) (y * 0xA001)) (sym (low-bit a)) (sym (low-bit b)))
     ∙ xor-swap (a / 2) (b / 2) (a % 2 * 0xA001) (b % 2 * 0xA001)
 
@@ -39,7 +39,6 @@ turns-xor zero a b = refl
 turns-xor (suc n) a b = ap (turns n) (shift-xor a b) ∙ turns-xor n (shift a) (shift b)
 
 pub turns-zero : (n : ℕ) → turns n 0 ≡ 0
-unfolding shift
 turns-zero zero = refl
 turns-zero (suc n) = turns-zero n
 
@@ -49,12 +48,11 @@ turns-add (suc m) n r = ap (λ (k : ℕ). turns k r) (suc-add m n) ∙ turns-add
 
 -- an even number is halved
 pub shift-double : (n : ℕ) → shift (n * 2) ≡ n
-unfolding shift
 shift-double n =
     ap₂ (λ (h t : ℕ). bitXor h (t * 0xA001)) (mul-div-cancel n (zero-lt-suc 1)) (mul-mod-left n 2) ∙ xor-zero-r n
 
 -- a bit below a doubled number is xored as it is added
-pub put-bit : (n : ℕ) (b : Bool) → n * 2 + value b ≡ bitXor (value b) (n * 2)
+pub put-bit : (n : ℕ) (b : Bool) → n * 2 + bit b ≡ bitXor (bit b) (n * 2)
 put-bit n true = sym (xor-shifted n 1 1 (le-refl 2)) ∙ xor-comm (n * 2) 1
 put-bit n false = sym (xor-shifted n 1 0 (zero-lt-suc 1)) ∙ xor-comm (n * 2) 0
 
@@ -62,24 +60,22 @@ pub feed-turns : (r : ℕ) (bs : List Bool) → feed r bs ≡ turns (length bs) 
 unfolding feed
 feed-turns r [] = sym (xor-zero-r r)
 feed-turns r (b ∷ bs) =
-    feed-turns (shift (bitXor r (value b))) bs
+    feed-turns (shift (bitXor r (bit b))) bs
     ∙ ap (turns (length bs))
-    (ap (bitXor (shift (bitXor r (value b)))) (sym (shift-double (num bs)))
-    ∙ sym (shift-xor (bitXor r (value b)) (num bs * 2))
-    ∙ ap shift (xor-assoc r (value b) (num bs * 2) ∙ ap (bitXor r) (sym (put-bit (num bs) b))))
+    (ap (bitXor (shift (bitXor r (bit b)))) (sym (shift-double (num bs)))
+    ∙ sym (shift-xor (bitXor r (bit b)) (num bs * 2))
+    ∙ ap shift (xor-assoc r (bit b) (num bs * 2) ∙ ap (bitXor r) (sym (put-bit (num bs) b))))
 
 pub feed-append : (r : ℕ) (p bs : List Bool) → feed r (p ++ bs) ≡ feed (feed r p) bs
 unfolding feed
 feed-append r [] bs = refl
-feed-append r (a ∷ p) bs = feed-append (shift (bitXor r (value a))) p bs
+feed-append r (a ∷ p) bs = feed-append (shift (bitXor r (bit a))) p bs
 
 -- below 2^16 the register stays there, and only 0 turns into 0
 pub shift-lt : (r : ℕ) → r < 2 ^ 16 → shift r < 2 ^ 16
-unfolding shift
 shift-lt r h = xor-lt 16 (r / 2) (r % 2 * 0xA001) (omega arith) (omega arith)
 
 pub shift-nonzero : (r : ℕ) → r < 2 ^ 16 → shift r ≡ 0 → r ≡ 0
-unfolding shift
 shift-nonzero r h e = let z : r / 2 ≡ r % 2 * 0xA001 = xor-zero (r / 2) (r % 2 * 0xA001) e in omega arith
 
 pub turns-nonzero : (n r : ℕ) → r < 2 ^ 16 → turns n r ≡ 0 → r ≡ 0

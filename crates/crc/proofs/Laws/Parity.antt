@@ -1,7 +1,7 @@
 -- A bit string that is taken to 0 has an even number of set bits: the register's parity changes with each set bit that is fed.
 -- Assumes nothing.
 use mathlib.Core.Path.{_≡_, refl, sym, ap, ap₂, _∙_}
-use mathlib.Core.Bool.{Bool, true, false}
+use mathlib.Core.Bool.{Bool, true, false, xor}
 use mathlib.Core.List.{List, [], _∷_}
 use Prim.Native.Nat.{ℕ, zero, suc, _+_, _*_, _/_, _%_, _^_, _<_}
 use native.Mathlib.Nat.{pow-suc, suc-add, zero-add}
@@ -10,12 +10,13 @@ use lib.Bits.{bitXor}
 use lib.Dec.{eqb}
 use lib.ListN.{length}
 use borrow.Author.Tests.{eq-eqb, ne-eqb, eqb-true, eqb-false}
-use Rattle.crc.specs.Bits.{odd, value}
+use Rattle.answer.specs.Bit.{bit}
+use Rattle.crc.specs.Bits.{odd}
 use Rattle.crc.specs.Crc.{shift}
-use Rattle.crc.specs.Places.{xor, places}
+use Rattle.crc.specs.Places.{places}
 use Rattle.crc.specs.Table.{turns}
 use Rattle.crc.proofs.Laws.Feed.{num}
-use Rattle.crc.proofs.Laws.Xor.{low-bit, half-digit, odd-digit, xor-half, xor-odd, xor-assoc-bits}
+use Rattle.crc.proofs.Laws.Xor.{low-bit, half-digit, odd-digit, xor-half, xor-odd, xor-false, xor-assoc-bits}
 
 -- the parity of a number's k lowest bits
 abbrev parity : ℕ → ℕ → Bool
@@ -23,6 +24,7 @@ parity zero n = false
 parity (suc k) n = xor (odd n) (parity k (n / 2))
 
 xor-comm-bits : (a b : Bool) → xor a b ≡ xor b a
+unfolding xor
 xor-comm-bits true true = refl
 xor-comm-bits true false = refl
 xor-comm-bits false true = refl
@@ -35,6 +37,7 @@ xor-swap-bits a b c d =
     ∙ sym (xor-assoc-bits a c (xor b d))
 
 parity-xor : (k a b : ℕ) → parity k (bitXor a b) ≡ xor (parity k a) (parity k b)
+unfolding xor
 parity-xor zero a b = refl
 parity-xor (suc k) a b =
     ap₂ xor (xor-odd a b) (ap (parity k) (xor-half a b) ∙ parity-xor k (a / 2) (b / 2))
@@ -42,7 +45,7 @@ parity-xor (suc k) a b =
 
 parity-zero : (k : ℕ) → parity k 0 ≡ false
 parity-zero zero = refl
-parity-zero (suc k) = parity-zero k
+parity-zero (suc k) = xor-false (parity k 0) ∙ parity-zero k
 
 -- bits past a number's last do not count
 parity-more : (m k n : ℕ) → n < 2 ^ m → parity (m + k) n ≡ parity m n
@@ -53,22 +56,22 @@ parity-more (suc m) k n h =
     let l : n < 2 ^ m * 2 = rw pow-suc at h in
     ap (λ (j : ℕ). parity j n) (suc-add m k) ∙ ap (xor (odd n)) (parity-more m k (n / 2) (omega arith))
 
-carry-below : (b : Bool) → value b * 0xA001 < 2 ^ 16
+carry-below : (b : Bool) → bit b * 0xA001 < 2 ^ 16
 carry-below true = omega arith
 carry-below false = omega arith
 
 -- the polynomial has three set bits
-carry-parity : (b : Bool) → parity 16 (value b * 0xA001) ≡ b
+carry-parity : (b : Bool) → parity 16 (bit b * 0xA001) ≡ b
+unfolding xor
 carry-parity true = refl
 carry-parity false = refl
 
 parity-shift : (k r : ℕ) → parity (16 + k) (shift r) ≡ parity (suc (16 + k)) r
-unfolding shift
 parity-shift k r =
     parity-xor (16 + k) (r / 2) (r % 2 * 0xA001)
     ∙ ap (xor (parity (16 + k) (r / 2)))
     (ap (λ (n : ℕ). parity (16 + k) (n * 0xA001)) (low-bit r)
-    ∙ parity-more 16 k (value (odd r) * 0xA001) (carry-below (odd r))
+    ∙ parity-more 16 k (bit (odd r) * 0xA001) (carry-below (odd r))
     ∙ carry-parity (odd r))
     ∙ xor-comm-bits (parity (16 + k) (r / 2)) (odd r)
 
@@ -84,13 +87,15 @@ parity-of [] = false
 parity-of (b ∷ bs) = xor b (parity-of bs)
 
 parity-num : (bs : List Bool) → parity (16 + length bs) (num bs) ≡ parity-of bs
+unfolding xor
 parity-num [] = refl
 parity-num (b ∷ bs) =
     let e : 16 + suc (length bs) ≡ suc (16 + length bs) = omega arith in
-    ap (λ (k : ℕ). parity k (num bs * 2 + value b)) e
+    ap (λ (k : ℕ). parity k (num bs * 2 + bit b)) e
     ∙ ap₂ xor (odd-digit (num bs) b) (ap (parity (16 + length bs)) (half-digit (num bs) b) ∙ parity-num bs)
 
 odd-suc : (n : ℕ) → odd (suc n) ≡ xor true (odd n)
+unfolding xor
 odd-suc n = by (odd n) refl
   where
     by : (t : Bool) → odd n ≡ t → odd (suc n) ≡ xor true t
@@ -100,11 +105,11 @@ odd-suc n = by (odd n) refl
 count-parity : (k : ℕ) (bs : List Bool) → odd (length (places k bs)) ≡ parity-of bs
 count-parity k [] = refl
 count-parity k (true ∷ bs) = odd-suc (length (places (suc k) bs)) ∙ ap (xor true) (count-parity (suc k) bs)
-count-parity k (false ∷ bs) = count-parity (suc k) bs
+count-parity k (false ∷ bs) = count-parity (suc k) bs ∙ sym (xor-false (parity-of bs))
 
 pub even-places : (k : ℕ) (bs : List Bool) → turns (length bs) (num bs) ≡ 0 → length (places k bs) % 2 ≡ 0
 even-places k bs e =
     let even : odd (length (places k bs)) ≡ false =
-    count-parity k bs ∙ sym (parity-num bs) ∙ sym (parity-turns (length bs) (num bs)) ∙ ap (parity 16) e in
+    count-parity k bs ∙ sym (parity-num bs) ∙ sym (parity-turns (length bs) (num bs)) ∙ ap (parity 16) e ∙ parity-zero 16 in
     let other : length (places k bs) % 2 ≡ 1 → ⊥ = eqb-false (length (places k bs) % 2) 1 even in
     omega arith

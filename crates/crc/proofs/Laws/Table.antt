@@ -22,7 +22,6 @@ entry-of (suc k) n (suc i) h = entry-of k (suc n) i (omega arith) ∙ ap (turns 
 
 -- entry i of the table is i after eight turns
 pub entry : (i : ℕ) → i < 256 → getD table i 0 ≡ turns 8 i
-unfolding table
 entry i h =
     let e : 0 + i ≡ i = omega arith in
     entry-of 256 0 i h ∙ ap (turns 8) e

@@ -13,7 +13,7 @@ use lib.Ieee.Fits.{and-l, and-r}
 use lib.ListN.{length}
 use lib.Pow.{pow-pos}
 use borrow.Author.Tests.{eq-eqb}
-use Rattle.crc.specs.Bits.{value}
+use Rattle.answer.specs.Bit.{bit}
 use Rattle.crc.specs.Crc.{shift}
 use Rattle.crc.specs.Places.{places, first, last}
 use Rattle.crc.specs.Table.{turns}
@@ -83,7 +83,7 @@ never-one (suc n) r = not (eqb (shift r) 1) && never-one n (shift r)
 
 meets : (b : Bool) → T (not b) → b ≡ true → ⊥
 meets true t e = t
-meets false t e = let z : _≡_ {A = ℕ} 0 1 = ap value e in omega arith
+meets false t e = let z : _≡_ {A = ℕ} 0 1 = ap bit e in omega arith
 
 never : (n r : ℕ) → T (never-one n r) → (j : ℕ) → j < n → turns (suc j) r ≡ 1 → ⊥
 never zero r t j h e = omega arith
@@ -94,7 +94,6 @@ never (suc n) r t (suc j) h e =
 
 -- the order of x modulo the polynomial is above 543
 unmet : T (never-one 543 1)
-unfolding shift
 unmet = tt
 
 turns-lt : (n r : ℕ) → r < 2 ^ 16 → turns n r < 2 ^ 16

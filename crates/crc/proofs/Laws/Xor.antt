@@ -1,6 +1,6 @@
 -- Xor of numbers: its digits, and that it is associative. Assumes nothing.
 use mathlib.Core.Path.{_≡_, refl, sym, ap, ap₂, _∙_}
-use mathlib.Core.Bool.{Bool, true, false}
+use mathlib.Core.Bool.{Bool, true, false, xor}
 use mathlib.Core.Logic.{_⊎_, inl, inr}
 use Prim.Native.Nat.{ℕ, zero, suc, _+_, _*_, _/_, _%_, _<_}
 use native.Mathlib.Nat.{mod-lt, zero-lt-suc}
@@ -9,47 +9,58 @@ use lib.Arith.{bin-ind, digits-div, digits-mod}
 use lib.Bits.{bitXor, differ, xor-step, xor-comm, xor-zero-r, xor-self, xor-shifted}
 use lib.Dec.{eqb}
 use borrow.Author.Tests.{eq-eqb, ne-eqb}
-use Rattle.crc.specs.Bits.{odd, value}
-use Rattle.crc.specs.Places.{xor}
+use Rattle.answer.specs.Bit.{bit}
+use Rattle.crc.specs.Bits.{odd}
 
 -- the lowest digit of a number is its lowest bit
-go : (k : ℕ) → k < 2 → k ≡ value (eqb k 1)
+go : (k : ℕ) → k < 2 → k ≡ bit (eqb k 1)
 go zero h = refl
 go (suc zero) h = refl
 go (suc (suc k)) h = let z : ⊥ = omega arith in absurd z
 
-pub low-bit : (n : ℕ) → n % 2 ≡ value (odd n)
+pub low-bit : (n : ℕ) → n % 2 ≡ bit (odd n)
 low-bit n = go (n % 2) (mod-lt n (zero-lt-suc 1))
 
-pub differ-bits : (a b : Bool) → differ (value a) (value b) ≡ value (xor a b)
+pub differ-bits : (a b : Bool) → differ (bit a) (bit b) ≡ bit (xor a b)
+unfolding xor
 differ-bits true true = refl
 differ-bits true false = refl
 differ-bits false true = refl
 differ-bits false false = refl
 
+pub xor-false : (b : Bool) → xor false b ≡ b
+unfolding xor
+xor-false true = refl
+xor-false false = refl
+
 pub xor-assoc-bits : (a b c : Bool) → xor (xor a b) c ≡ xor a (xor b c)
+unfolding xor
 xor-assoc-bits true true true = refl
 xor-assoc-bits true true false = refl
-xor-assoc-bits true false c = refl
-xor-assoc-bits false b c = refl
+xor-assoc-bits true false true = refl
+xor-assoc-bits true false false = refl
+xor-assoc-bits false true true = refl
+xor-assoc-bits false true false = refl
+xor-assoc-bits false false true = refl
+xor-assoc-bits false false false = refl
 
 -- xor, its lowest digit written as a bit
-pub xor-digits : (a b : ℕ) → bitXor a b ≡ bitXor (a / 2) (b / 2) * 2 + value (xor (odd a) (odd b))
+pub xor-digits : (a b : ℕ) → bitXor a b ≡ bitXor (a / 2) (b / 2) * 2 + bit (xor (odd a) (odd b))
 xor-digits a b =
     xor-step a b
     ∙ ap (λ (d : ℕ). bitXor (a / 2) (b / 2) * 2 + d)
     (ap₂ differ (low-bit a) (low-bit b) ∙ differ-bits (odd a) (odd b))
 
-value-small : (b : Bool) → value b < 2
-value-small true = omega arith
-value-small false = omega arith
+bit-small : (b : Bool) → bit b < 2
+bit-small true = omega arith
+bit-small false = omega arith
 
-pub odd-digit : (n : ℕ) (b : Bool) → odd (n * 2 + value b) ≡ b
+pub odd-digit : (n : ℕ) (b : Bool) → odd (n * 2 + bit b) ≡ b
 odd-digit n true = eq-eqb ((n * 2 + 1) % 2) 1 (omega arith)
 odd-digit n false = ne-eqb ((n * 2 + 0) % 2) 1 (omega arith)
 
-pub half-digit : (n : ℕ) (b : Bool) → (n * 2 + value b) / 2 ≡ n
-half-digit n b = digits-div n (value-small b)
+pub half-digit : (n : ℕ) (b : Bool) → (n * 2 + bit b) / 2 ≡ n
+half-digit n b = digits-div n (bit-small b)
 
 pub xor-half : (a b : ℕ) → bitXor a b / 2 ≡ bitXor (a / 2) (b / 2)
 xor-half a b = ap (λ (n : ℕ). n / 2) (xor-digits a b) ∙ half-digit (bitXor (a / 2) (b / 2)) (xor (odd a) (odd b))
@@ -62,9 +73,9 @@ xor-assoc =
     bin-ind (λ (a : ℕ). (b c : ℕ) → bitXor (bitXor a b) c ≡ bitXor a (bitXor b c)) (λ b c. refl)
     (λ a ih b c.
     xor-digits (bitXor a b) c
-    ∙ ap₂ (λ (h : ℕ) (t : Bool). bitXor h (c / 2) * 2 + value (xor t (odd c))) (xor-half a b) (xor-odd a b)
-    ∙ ap₂ (λ (h : ℕ) (t : Bool). h * 2 + value t) (ih (b / 2) (c / 2)) (xor-assoc-bits (odd a) (odd b) (odd c))
-    ∙ ap₂ (λ (h : ℕ) (t : Bool). bitXor (a / 2) h * 2 + value (xor (odd a) t)) (sym (xor-half b c)) (sym (xor-odd b c))
+    ∙ ap₂ (λ (h : ℕ) (t : Bool). bitXor h (c / 2) * 2 + bit (xor t (odd c))) (xor-half a b) (xor-odd a b)
+    ∙ ap₂ (λ (h : ℕ) (t : Bool). h * 2 + bit t) (ih (b / 2) (c / 2)) (xor-assoc-bits (odd a) (odd b) (odd c))
+    ∙ ap₂ (λ (h : ℕ) (t : Bool). bitXor (a / 2) h * 2 + bit (xor (odd a) t)) (sym (xor-half b c)) (sym (xor-odd b c))
     ∙ sym (xor-digits a (bitXor b c)))
 
 -- two xors of pairs, regrouped

@@ -1,6 +1,6 @@
 -- Condition 3 holds. Assumes nothing.
 use mathlib.Core.Path.{_≡_, refl, sym, ap, _∙_}
-use mathlib.Core.Bool.{Bool}
+use mathlib.Core.Bool.{Bool, xor}
 use mathlib.Core.List.{List, [], _∷_, _++_}
 use Prim.Native.Nat.{ℕ, _+_, _*_, _≤_}
 use native.Mathlib.Omega.{arith}
@@ -48,5 +48,5 @@ frames-apart s t f g bs bt es et equal other =
     ∙ sym (from-start t (whole t g et .start))))
 
 pub condition-3 : Condition-3
-unfolding readFrame readBody crc feed
+unfolding readFrame readBody crc feed xor
 condition-3 = record { apart = frames-apart; first-accepted = refl; second-accepted = refl; sharp = refl }

@@ -10,11 +10,12 @@ use lib.ListN.{length}
 use borrow.Author.Tests.{eq-eqb, ne-eqb, not-false}
 use Rattle.answer.specs.Answer.{accepted}
 use Rattle.answer.proofs.Laws.Test.{passed}
+use Rattle.answer.specs.Bit.{bit}
 use Rattle.message.specs.Command.{commandListed, commandOf, checkedCommand, readCommand}
 use Rattle.message.specs.Lists.{conditionOf, latchedOf, armingOf, zoneOf, textOf, zones, words, texts}
 use Rattle.message.specs.Log.{logListed, logOf, readLog}
 use Rattle.message.specs.Message.{Message, fixed, digitsListed, orderListed, readPlain, readLogin, readZoneRequest, withData, messageOf}
-use Rattle.message.specs.Typed.{durationP1, parameters, commandBytes, logBytes, fixedFrame, conditionBits, latchedBits, armingBits, flag, statusByte, zoneBytes, eventBytes, textBits, textBytes}
+use Rattle.message.specs.Typed.{durationP1, parameters, commandBytes, logBytes, fixedFrame, conditionBits, latchedBits, armingBits, statusByte, zoneBytes, eventBytes, textBits, textBytes}
 use Rattle.message.specs.declared.command.Duration.{Duration}
 use Rattle.message.specs.declared.command.Command.{Command}
 use Rattle.message.specs.declared.command.Command.the-variants.{Off, On, AllOff, AllOn, Level, Decrement, Increment, SetCounter}
@@ -122,7 +123,7 @@ arming-back Arming.Armed s h = simp h
 arming-back Arming.BypassedByUser s h = simp h
 arming-back Arming.BypassedBySystem s h = simp h
 
-flag-back : (t : Bool) (k : ℕ) → k ≡ flag t → eqb k 1 ≡ t
+flag-back : (t : Bool) (k : ℕ) → k ≡ bit t → eqb k 1 ≡ t
 flag-back true k h = eq-eqb k 1 h
 flag-back false k h = ne-eqb k 1 (omega arith)
 
@@ -142,7 +143,7 @@ arming-below Arming.Armed = omega arith
 arming-below Arming.BypassedByUser = omega arith
 arming-below Arming.BypassedBySystem = omega arith
 
-flag-below : (t : Bool) → flag t < 2
+flag-below : (t : Bool) → bit t < 2
 flag-below true = omega arith
 flag-below false = omega arith
 
@@ -154,7 +155,7 @@ bits-apart c l a t hc hl ha ht s e = (omega arith, omega arith, omega arith, ome
 zone-back : (z : Zone) → zoneOf (statusByte z) (z .«loop_reading») ≡ z
 zone-back z =
     let b =
-    bits-apart (conditionBits (z .condition)) (latchedBits (z .«latched_alarm»)) (armingBits (z .arming)) (flag (z .«unacknowledged_trouble»))
+    bits-apart (conditionBits (z .condition)) (latchedBits (z .«latched_alarm»)) (armingBits (z .arming)) (bit (z .«unacknowledged_trouble»))
     (condition-below (z .condition)) (latched-below (z .«latched_alarm»)) (arming-below (z .arming)) (flag-below (z .«unacknowledged_trouble»))
     (statusByte z) refl in
     λ i. record {
@@ -181,7 +182,7 @@ two-flags x y k hx hy e =
 
 text-back : (t : TextMessage) (k : ℕ) → k ≡ textBits t → textOf k ≡ t
 text-back t k e =
-    let f = two-flags (flag (t .displayed)) (flag (t .«not_acknowledged»)) k (flag-below (t .displayed)) (flag-below (t .«not_acknowledged»)) e in
+    let f = two-flags (bit (t .displayed)) (bit (t .«not_acknowledged»)) k (flag-below (t .displayed)) (flag-below (t .«not_acknowledged»)) e in
     λ i. record { displayed = flag-back (t .displayed) (k % 2) (f .0) i; «not_acknowledged» = flag-back (t .«not_acknowledged») (k / 2 % 2) (f .1) i }
 
 bits-below : (t : TextMessage) → textBits t < 4

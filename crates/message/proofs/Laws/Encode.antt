@@ -9,9 +9,10 @@ use lib.Ieee.Fits.{and-l, and-r}
 use lib.ListN.{length, getD, drop}
 use lib.Pow.{areBytes}
 use borrow.Author.Tests.{eqb-true, eqb-false, ltb-true, not-true}
+use Rattle.answer.specs.Bit.{bit}
 use Rattle.message.specs.Command.{durationListed, commandListed, commandOf}
 use Rattle.message.specs.Lists.{zoneOf, zoneListed, zonesListed, textOf, zones, words, texts}
-use Rattle.message.specs.Typed.{parameters, commandBytes, conditionBits, latchedBits, armingBits, flag, statusByte, zoneBytes, eventBytes, textBits, textBytes}
+use Rattle.message.specs.Typed.{parameters, commandBytes, conditionBits, latchedBits, armingBits, statusByte, zoneBytes, eventBytes, textBits, textBytes}
 use Rattle.message.specs.declared.lists.Condition.{Condition}
 use Rattle.message.specs.declared.lists.Condition.the-variants as Condition
 use Rattle.message.specs.declared.lists.LatchedAlarm.{LatchedAlarm}
@@ -124,7 +125,7 @@ arming-value (suc (suc zero)) h = refl
 arming-value (suc (suc (suc zero))) h = refl
 arming-value (suc (suc (suc (suc v)))) h = let z : ⊥ = omega arith in absurd z
 
-flag-value : (v : ℕ) → v < 2 → flag (eqb v 1) ≡ v
+flag-value : (v : ℕ) → v < 2 → bit (eqb v 1) ≡ v
 flag-value zero h = refl
 flag-value (suc zero) h = refl
 flag-value (suc (suc v)) h = let z : ⊥ = omega arith in absurd z
