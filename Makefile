@@ -1,4 +1,5 @@
 # make test   prove everything from nothing, then the tests from outside
+# make wrong NAME=..      the wrong programs of a crate; of all crates without NAME
 # make lib    the static library for C hosts, target/libgateway.a
 # make bench  speed beside plain C at -O3
 # make fuzz SECONDS=..    the comparison with an independent implementation, on random inputs for so long
@@ -14,10 +15,13 @@ CAPTURE = target/bin/capture
 TESTS = $(patsubst tests/c/%.c,target/tests/%,$(wildcard tests/c/*.c))
 BENCHES = $(patsubst bench/%.c,target/bench/%,$(filter-out bench/stack.c,$(wildcard bench/*.c)) bench/stack.c)
 
-.PHONY: test lib bench ctest outside fuzz demo run install clean
+.PHONY: test wrong lib bench ctest outside fuzz demo run install clean
 
 test:
 	@tests/run
+
+wrong:
+	@tests/wrong $(NAME)
 
 lib: $(LIB)
 

@@ -9,99 +9,82 @@ mod omnistat2; // Omnistat2 messages
 mod output; // words, numbers and bytes
 mod patterns; // X-10 patterns
 
+ghost use Prim.Native.Nat.{_≤_};
 use input::MOST;
 use input::starts;
+use output::line_of;
 use output::text;
 
 const STDIN: i32 = 0;
 
-// Whether a line names a call. Its answer follows on the line.
-fn names(line: &[u8], call: &[u8]) -> bool {
-    let named = starts(line, call);
-    if named {
-        text(b" =");
+// How many calls have a name.
+const CALLS: u8 = 17;
+
+// The call whose digits are places.
+const READ_PLACES: u8 = 0;
+
+// The call that a line names, of names with a line for each, by its place there. Its answer follows on the line.
+fn named(line: &[u8], names: &[u8]) -> u8 {
+    let mut call: u8 = 0;
+    while call < CALLS {
+        if starts(line, line_of(names, call)) {
+            text(b" =");
+            return call;
+        }
+        call += 1;
     }
-    named
+    call
 }
 
-// The answers of the Omni-Link calls.
-fn answer_omnilink(line: &[u8], bytes: &[u8]) {
-    if names(line, b"read frame") {
-        omnilink::read_frame(bytes);
-    }
-    if names(line, b"write frame") {
-        omnilink::write_frame(bytes);
-    }
-    if names(line, b"read message") {
-        omnilink::read_message(bytes);
-    }
-    if names(line, b"write message") {
-        omnilink::write_message(bytes);
-    }
-    if names(line, b"listing") {
-        captures::list(bytes);
-    }
+// The call that a line names, by its place among the answers below.
+fn call_of(line: &[u8]) -> u8 {
+    named(
+        line,
+        b"read places\nread frame\nwrite frame\nread message\nwrite message\nlisting\nat thermostat\nat host\nto thermostat\nto host\nstep\ntemperatures\ncost\ntally\nwrite unit\nwrite function\nwrite extended\n",
+    )
 }
 
-// The answers of the Omnistat2 calls.
-fn answer_omnistat2(line: &[u8], bytes: &[u8]) {
-    if names(line, b"at thermostat") {
-        omnistat2::at_thermostat(bytes);
+// How many halves of a number a digit fills.
+fn halves(call: u8) -> usize
+    ensures { λ r. ⌜ r ≤ 2 ⌝ }
+{
+    if call == READ_PLACES {
+        return 2;
     }
-    if names(line, b"at host") {
-        omnistat2::at_host(bytes);
-    }
-    if names(line, b"to thermostat") {
-        omnistat2::to_thermostat(bytes);
-    }
-    if names(line, b"to host") {
-        omnistat2::to_host(bytes);
-    }
+    1
 }
 
-// The answers of the calls above the layers.
-fn answer_model(line: &[u8], bytes: &[u8]) {
-    if names(line, b"step") {
-        model::step(bytes);
-    }
-    if names(line, b"temperatures") {
-        model::temperatures();
-    }
-    if names(line, b"cost") {
-        model::cost(bytes);
-    }
-    if names(line, b"tally") {
-        model::tally(bytes);
-    }
-}
-
-// The answers of the X-10 calls.
-fn answer_x10(line: &[u8], bytes: &[u8]) {
-    if names(line, b"write unit") {
-        patterns::write_unit(bytes);
-    }
-    if names(line, b"write function") {
-        patterns::write_function(bytes);
-    }
-    if names(line, b"write extended") {
-        patterns::write_extended(bytes);
+// The answer of a call to bytes, or to places.
+fn answer_call(call: u8, bytes: &[u8]) {
+    match call {
+        READ_PLACES => patterns::read(bytes),
+        1 => omnilink::read_frame(bytes),
+        2 => omnilink::write_frame(bytes),
+        3 => omnilink::read_message(bytes),
+        4 => omnilink::write_message(bytes),
+        5 => captures::list(bytes),
+        6 => omnistat2::at_thermostat(bytes),
+        7 => omnistat2::at_host(bytes),
+        8 => omnistat2::to_thermostat(bytes),
+        9 => omnistat2::to_host(bytes),
+        10 => model::step(bytes),
+        11 => model::temperatures(),
+        12 => model::cost(bytes),
+        13 => model::tally(bytes),
+        14 => patterns::write_unit(bytes),
+        15 => patterns::write_function(bytes),
+        16 => patterns::write_extended(bytes),
+        _ => {}
     }
 }
 
 // Prints a line and the answer of the call that it names.
 fn answer(line: &[u8]) {
     text(line);
-    let mut digits = [0u8; MOST];
-    let places = input::digits(line, 2, &mut digits);
-    if names(line, b"read places") {
-        patterns::read(&digits[..places]);
-    }
+    let call = call_of(line);
     let mut bytes = [0u8; MOST];
-    let n = input::digits(line, 1, &mut bytes);
-    answer_omnilink(line, &bytes[..n]);
-    answer_omnistat2(line, &bytes[..n]);
-    answer_model(line, &bytes[..n]);
-    answer_x10(line, &bytes[..n]);
+    let n = input::digits(line, halves(call), &mut bytes);
+    answer_call(call, &bytes[..n]);
     text(b"\n");
 }
 

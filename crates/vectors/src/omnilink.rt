@@ -59,89 +59,13 @@ pub(crate) fn write_message(bytes: &[u8]) {
     output::written(w, Form::Hex, &out);
 }
 
-// A message as it is printed: which of the names below, its numbers, and the count of its items.
-struct Summary {
-    name: u8,
-    numbers: u8,
-    first: u8,
-    second: u8,
-    third: u8,
-    fourth: u8,
-    items: u8,
-}
-
-fn names(n: u8) {
+// A message of this name, and its items.
+fn named(name: u8, bytes: &[u8], count: u8) {
     word(
-        b" acknowledge\n negative acknowledge\n upload event log\n request system information\n request system status\n logout\n request system events\n login\n request zones\n log entry\n\n zones\n events\n text messages\n",
-        n,
-    );
-}
-
-// A message with so many items.
-fn with_items(name: u8, items: u8) -> Summary {
-    Summary {
+        b" acknowledge\n negative acknowledge\n upload event log\n request system information\n request system status\n logout\n request system events\n\n\n log entry\n\n zones\n events\n text messages\n",
         name,
-        numbers: 0,
-        first: 0,
-        second: 0,
-        third: 0,
-        fourth: 0,
-        items,
-    }
-}
-
-fn shown_login(first: u8, second: u8, third: u8, fourth: u8) -> Summary {
-    Summary {
-        name: 7,
-        numbers: 4,
-        first,
-        second,
-        third,
-        fourth,
-        items: 0,
-    }
-}
-
-fn shown_request(first: u8, second: u8) -> Summary {
-    Summary {
-        name: 8,
-        numbers: 2,
-        first,
-        second,
-        third: 0,
-        fourth: 0,
-        items: 0,
-    }
-}
-
-fn shown_fixed(f: Fixed) -> Summary {
-    match f {
-        Fixed::Acknowledge => with_items(0, 0),
-        Fixed::NegativeAcknowledge => with_items(1, 0),
-        Fixed::UploadEventLog => with_items(2, 0),
-        Fixed::RequestSystemInformation => with_items(3, 0),
-        Fixed::RequestSystemStatus => with_items(4, 0),
-        Fixed::Logout => with_items(5, 0),
-        Fixed::RequestSystemEvents => with_items(6, 0),
-        Fixed::Login {
-            first,
-            second,
-            third,
-            fourth,
-        } => shown_login(first, second, third, fourth),
-        Fixed::ZoneRequest { first, last } => shown_request(first, last),
-        Fixed::LogEntry(_) => with_items(LOG_ENTRY, 9),
-        Fixed::Command(_) => with_items(COMMAND, 1),
-    }
-}
-
-fn shown(m: Message) -> Summary {
-    match m {
-        Message::Fixed(f) => shown_fixed(f),
-        Message::ZoneStatus { count } => with_items(ZONES, count),
-        Message::Events { count } => with_items(EVENTS, count),
-        Message::MessageStatus { count } => with_items(TEXT_MESSAGES, count),
-    }
+    );
+    items(name, bytes, count as usize);
 }
 
 fn two(first: u8, second: u8) {
@@ -151,20 +75,50 @@ fn two(first: u8, second: u8) {
     small(second);
 }
 
-fn show(m: Summary, bytes: &[u8]) {
-    names(m.name);
-    if 0 < m.numbers {
-        two(m.first, m.second);
+fn login(first: u8, second: u8, third: u8, fourth: u8) {
+    text(b" login");
+    two(first, second);
+    two(third, fourth);
+}
+
+fn zone_request(first: u8, last: u8) {
+    text(b" request zones");
+    two(first, last);
+}
+
+fn fixed(f: Fixed, bytes: &[u8]) {
+    match f {
+        Fixed::Acknowledge => named(0, bytes, 0),
+        Fixed::NegativeAcknowledge => named(1, bytes, 0),
+        Fixed::UploadEventLog => named(2, bytes, 0),
+        Fixed::RequestSystemInformation => named(3, bytes, 0),
+        Fixed::RequestSystemStatus => named(4, bytes, 0),
+        Fixed::Logout => named(5, bytes, 0),
+        Fixed::RequestSystemEvents => named(6, bytes, 0),
+        Fixed::Login {
+            first,
+            second,
+            third,
+            fourth,
+        } => login(first, second, third, fourth),
+        Fixed::ZoneRequest { first, last } => zone_request(first, last),
+        Fixed::LogEntry(_) => named(LOG_ENTRY, bytes, 9),
+        Fixed::Command(_) => named(COMMAND, bytes, 1),
     }
-    if 2 < m.numbers {
-        two(m.third, m.fourth);
+}
+
+fn show(m: Message, bytes: &[u8]) {
+    match m {
+        Message::Fixed(f) => fixed(f, bytes),
+        Message::ZoneStatus { count } => named(ZONES, bytes, count),
+        Message::Events { count } => named(EVENTS, bytes, count),
+        Message::MessageStatus { count } => named(TEXT_MESSAGES, bytes, count),
     }
-    items(m.name, bytes, m.items as usize);
 }
 
 pub(crate) fn read_message(bytes: &[u8]) {
     match message::message::read(bytes) {
-        MessageRead::Accepted(m) => show(shown(m), bytes),
+        MessageRead::Accepted(m) => show(m, bytes),
         MessageRead::Refused(r) => refused(r),
     }
 }

@@ -10,79 +10,6 @@ use omnistat::request::Request;
 // The most bytes of a message.
 const ROOM: usize = 18;
 
-const SET: u8 = 1;
-
-const DATA: u8 = 2;
-
-// What was read: the refusal's number, or 0; the type; the first byte or the number of the thermostat; start and count.
-struct Fields {
-    refusal: u64,
-    kind: u8,
-    who: u8,
-    start: u8,
-    count: u8,
-}
-
-fn heard(kind: u8, who: u8, start: u8, count: u8) -> Fields {
-    Fields {
-        refusal: 0,
-        kind,
-        who,
-        start,
-        count,
-    }
-}
-
-fn not_heard(refusal: u64) -> Fields {
-    Fields {
-        refusal,
-        kind: 0,
-        who: 0,
-        start: 0,
-        count: 0,
-    }
-}
-
-fn request(r: Request) -> Fields {
-    match r {
-        Request::Refused(e) => not_heard(answer::number(e)),
-        Request::Poll {
-            first,
-            start,
-            count,
-        } => heard(0, first, start, count),
-        Request::Set {
-            first,
-            start,
-            count,
-        } => heard(SET, first, start, count),
-        Request::PollGroup { first, group } => heard(
-            omnistat::group::poll_type(group),
-            first,
-            0,
-            0,
-        ),
-    }
-}
-
-fn reply(r: Reply) -> Fields {
-    match r {
-        Reply::Refused(e) => not_heard(answer::number(e)),
-        Reply::Acknowledge { number } => heard(0, number, 0, 0),
-        Reply::Negative { number } => heard(1, number, 0, 0),
-        Reply::Data {
-            number,
-            start,
-            count,
-        } => heard(DATA, number, start, count),
-        Reply::Group {
-            number,
-            group,
-            count,
-        } => heard(omnistat::group::reply_type(group), number, 0, count),
-    }
-}
-
 fn registers(start: u8, count: u8) {
     text(b" registers from ");
     small(start);
@@ -95,53 +22,88 @@ fn values(bytes: &[u8]) {
     output::bytes(bytes);
 }
 
-fn show_request(h: Fields, bytes: &[u8]) {
-    word(
-        b" poll\n set\n poll group 1\n poll group 2\n poll group 3\n",
-        h.kind,
-    );
-    if 0 < h.count {
-        registers(h.start, h.count);
-    }
-    if h.kind == SET {
-        values(omnistat::request::values(bytes, h.count));
-    }
+// The first byte of a message to a thermostat.
+fn to(first: u8) {
     text(b", to ");
-    output::hex(h.who);
+    output::hex(first);
 }
 
-fn show_reply(h: Fields, bytes: &[u8]) {
-    word(
-        b" acknowledge\n negative\n data\n group 1\n group 2\n group 3\n",
-        h.kind,
-    );
-    if h.kind == DATA {
-        registers(h.start, h.count);
-        values(omnistat::reply::values(bytes, h.count));
-    }
-    if DATA < h.kind {
-        values(omnistat::reply::group_values(bytes, h.count));
-    }
-    text(b", from ");
-    small(h.who);
+fn poll(first: u8, start: u8, count: u8) {
+    text(b" poll");
+    registers(start, count);
+    to(first);
+}
+
+fn set(first: u8, start: u8, count: u8, bytes: &[u8]) {
+    text(b" set");
+    registers(start, count);
+    values(omnistat::request::values(bytes, count));
+    to(first);
+}
+
+fn poll_group(first: u8, kind: u8) {
+    word(b"\n\n poll group 1\n poll group 2\n poll group 3\n", kind);
+    to(first);
 }
 
 pub(crate) fn at_thermostat(bytes: &[u8]) {
-    let h = request(omnistat::request::read(bytes));
-    if 0 < h.refusal {
-        output::refusal(h.refusal);
-        return;
+    match omnistat::request::read(bytes) {
+        Request::Refused(r) => output::refused(r),
+        Request::Poll {
+            first,
+            start,
+            count,
+        } => poll(first, start, count),
+        Request::Set {
+            first,
+            start,
+            count,
+        } => set(first, start, count, bytes),
+        Request::PollGroup { first, group } => poll_group(first, omnistat::group::poll_type(group)),
     }
-    show_request(h, bytes);
+}
+
+// The number of the thermostat that replies.
+fn from(number: u8) {
+    text(b", from ");
+    small(number);
+}
+
+// A reply without data bytes.
+fn plain(number: u8, kind: u8) {
+    word(b" acknowledge\n negative\n", kind);
+    from(number);
+}
+
+fn data(number: u8, start: u8, count: u8, bytes: &[u8]) {
+    text(b" data");
+    registers(start, count);
+    values(omnistat::reply::values(bytes, count));
+    from(number);
+}
+
+fn group_of(number: u8, kind: u8, count: u8, bytes: &[u8]) {
+    word(b"\n\n\n group 1\n group 2\n group 3\n", kind);
+    values(omnistat::reply::group_values(bytes, count));
+    from(number);
 }
 
 pub(crate) fn at_host(bytes: &[u8]) {
-    let h = reply(omnistat::reply::read(bytes));
-    if 0 < h.refusal {
-        output::refusal(h.refusal);
-        return;
+    match omnistat::reply::read(bytes) {
+        Reply::Refused(r) => output::refused(r),
+        Reply::Acknowledge { number } => plain(number, 0),
+        Reply::Negative { number } => plain(number, 1),
+        Reply::Data {
+            number,
+            start,
+            count,
+        } => data(number, start, count, bytes),
+        Reply::Group {
+            number,
+            group,
+            count,
+        } => group_of(number, omnistat::group::reply_type(group), count, bytes),
     }
-    show_reply(h, bytes);
 }
 
 // Address, type and data bytes.

@@ -132,10 +132,14 @@ fn word_at(words: &[u8], n: u8) -> usize
 }
 
 // Word n, of words with a line for each.
-pub(crate) fn word(words: &[u8], n: u8) {
+pub(crate) fn line_of(words: &[u8], n: u8) -> &[u8] {
     let at = word_at(words, n);
     let end = line_end(words, at);
-    text(&words[at..end]);
+    &words[at..end]
+}
+
+pub(crate) fn word(words: &[u8], n: u8) {
+    text(line_of(words, n));
 }
 
 // What a writer answered and wrote.
