@@ -1,9 +1,14 @@
 /* Chaltervo: line software of a site gateway.
 
-   Every call answers a uint64_t. Its low byte is the answer number: GATEWAY_ACCEPTED, or the number of a refusal. A refusal
-   is the number and nothing else, and lent memory is then exactly as before. What an accepted call returns is packed above
-   the low byte, in the order that the call's comment gives, the first field lowest; the numbers behind the fields are their
-   widths in bits. A null pointer with length 0 is an empty buffer. */
+   Every call that can refuse answers a uint64_t. Its low byte is the answer number: GATEWAY_ACCEPTED, or the number of a
+   refusal. A refusal is the number and nothing else, and lent memory is then exactly as before. What an accepted call returns
+   is packed above the low byte, in the order that the call's comment gives, the first field lowest; the numbers behind the
+   fields are their widths in bits. temperature_celsius, temperature_fahrenheit_tenths and setpoints_from_bytes refuse nothing
+   and answer their value itself.
+
+   A buffer is passed as a pointer and a length; a null pointer with length 0 is an empty buffer. What a call writes to (out, a
+   register map, a tally) overlaps nothing else that the same call is lent: neither what it reads nor what else it writes to.
+   A writer changes the bytes that it counts as written, and leaves out past them as it was. */
 #ifndef GATEWAY_H
 #define GATEWAY_H
 
@@ -62,22 +67,23 @@ static inline uint16_t gateway_word(uint64_t answer, unsigned i)
    5A 01 05 C1 93 is type 05 with no data bytes; with 92 at its end it is refused 5. */
 uint64_t omnilink_frame_read(const uint8_t *bytes, size_t len);
 
-/* Writes the frame of a type and len data bytes to out, which has room bytes and does not overlap data.
-   Accepted: bytes written (16), len + 5; out past them stays. Refused: 3 more than 64 data bytes; 9 too little room. */
+/* Writes the frame of a type and len data bytes to out, which has room bytes.
+   Accepted: bytes written (16), len + 5. Refused: 3 more than 64 data bytes; 9 too little room. */
 uint64_t omnilink_frame_write(uint8_t type, const uint8_t *data, size_t len, uint8_t *out, size_t room);
 
 /* Omni-Link messages: frames of the types 05, 06, 0D, 0E, 0F, 11, 13, 15, 16, 20, 21, 22, 23 and 25 (hex).
 
    Every reader here takes a whole frame and refuses it as omnilink_frame_read does, then 6 an unknown type, 7 a length
-   that is wrong for the type, 8 a field outside its list. A reader of an item then refuses 6 a message of another type than
-   its own, and 8 an index or field past the last. Items count from 0. */
+   that is wrong for the type, 8 a field outside its list. A reader of an item then refuses 8 a message of another type than
+   its own, and an index or field past the last. Items count from 0. */
 
-/* Reads a message. Accepted: type (8), count of items (8): zones, events or text messages, and 0 for the other types. */
+/* Reads a message. Accepted: type (8), count of items (8): zones, events or text messages, and 0 for the other types.
+   The data bytes are bytes[3] and on: the four digits of a login (type 20) are bytes[3] to bytes[6], each 0 to 9; the first
+   and the last zone of a zone request (type 15) are bytes[3] and bytes[4]. */
 uint64_t omnilink_message_read(const uint8_t *bytes, size_t len);
 
-/* Writes the message of a type and len data bytes to out, which has room bytes and does not overlap data.
-   Accepted: bytes written (16), len + 5; out past them stays. Refused: 6 unknown type; 7 length; 8 a field; 9 too little
-   room. */
+/* Writes the message of a type and len data bytes to out, which has room bytes.
+   Accepted: bytes written (16), len + 5. Refused: 6 unknown type; 7 length; 8 a field; 9 too little room. */
 uint64_t omnilink_message_write(uint8_t type, const uint8_t *data, size_t len, uint8_t *out, size_t room);
 
 /* Zone i of a zone status (type 16). Accepted: condition (8: 0 secure, 1 not ready, 2 trouble), latched alarm (8: 0 secure,
@@ -101,35 +107,42 @@ uint64_t omnilink_command(const uint8_t *bytes, size_t len);
    5 minute, 6 event type, 7 parameter 1, 8 parameter 2 as one word. */
 uint64_t omnilink_log_entry(const uint8_t *bytes, size_t len, size_t field);
 
-/* Omnistat2 messages */
+/* Omnistat2 messages: address byte, a byte with length N (high half) and type (low half), N data bytes, sum.
+
+   The readers refuse, in this order: 1 empty; 2 a first byte that is not for their end; 1 one byte only, or fewer than N+3
+   bytes; 4 more; 5 sum; 6 unknown type; 7 N wrong for the type; 8 a poll's count outside 1 to 14, or a run of registers that
+   ends above 255 or meets 172 to 181. The writers refuse 6, 7 and 8 likewise, 8 also an address or number outside its list,
+   then 9 too little room. */
 
 /* Reads a message at the thermostat: type (8), first byte (8), start register (8), count of registers or values (8).
    Types: 0 poll, 1 set, 2 to 4 poll of group 1 to 3, whose start and count are 0. The values of a set are the count
-   bytes from bytes[3] on. Refusals: 1, 2, 4, 5, 6, 7, 8.
+   bytes from bytes[3] on. The first byte is 00 for all, 01 to 7F, or FA universal.
    01 21 3B 50 AD is a set (1) with first byte 1, start 59, count 1, and the value 50 hex at bytes[3]. */
 uint64_t omnistat_read_at_thermostat(const uint8_t *bytes, size_t len);
 
 /* Reads a message at the host: type (8), number of the thermostat (8), start register (8), count of values (8).
    Types: 0 acknowledge, 1 negative, start and count 0; 2 data, the values from bytes[3] on; 3 to 5 group 1 to 3, start
-   0, the values from bytes[2] on. A first byte FA is a reply from thermostat 7A. Refusals: 1, 2, 4, 5, 6, 7, 8. */
+   0, the values from bytes[2] on. The first byte is 81 to FF, the number and 80: FA is a reply from thermostat 7A. */
 uint64_t omnistat_read_at_host(const uint8_t *bytes, size_t len);
 
 /* Writes a message to a thermostat, of a type and its data bytes: bytes written (16). The address is 00 for all, 01 to
-   7F, or FA universal. Refusals: 6, 7, 8, 9. */
+   7F, or FA universal. */
 uint64_t omnistat_write_to_thermostat(uint8_t address, uint8_t type, const uint8_t *data, size_t len, uint8_t *out, size_t room);
 
-/* Writes a reply to the host, of a type and its data bytes: bytes written (16). The number is the thermostat's, 01 to 7F.
-   Refusals: 6, 7, 8, 9. */
+/* Writes a reply to the host, of a type and its data bytes: bytes written (16). The number is the thermostat's, 01 to 7F. */
 uint64_t omnistat_write_to_host(uint8_t number, uint8_t type, const uint8_t *data, size_t len, uint8_t *out, size_t room);
 
 /* The model thermostat, temperatures and setpoints */
 
 /* A step of the model thermostat with the address own: takes a message of len bytes, changes the map, and writes the reply
-   to out. The map has 256 bytes, one for each register; out has room for at least 18 and overlaps neither the map nor the
-   message. Accepted: bytes written (16), 0 where nothing is sent: a broadcast, or a message for another address.
+   to out. The map has 256 bytes, one for each register; out has room for at least 18.
+   Accepted: bytes written (16), 0 where nothing is sent: a broadcast, or a message for another address.
    Refused, with map and out unchanged: 9 room under 18, or map_len not 256; 8 own outside 1 to 127; then what
-   omnistat_read_at_thermostat refuses. A register that is unlisted, read only or out of range gets a negative reply.
-   At own 1, the message 01 21 3B 50 AD stores 50 hex in map[59] and writes 81 00 81; 00 21 3B 50 AC stores and writes nothing. */
+   omnistat_read_at_thermostat refuses. A poll that meets an unlisted register gets a negative reply; so does a set that meets
+   a register that is unlisted or read only, or a byte out of its register's range, and it stores nothing. A poll of a read-only
+   register is answered with its content.
+   At own 1, the message 01 21 3B 50 AD stores 50 hex in map[59] and writes 81 00 81; 00 21 3B 50 AC stores it too
+   and writes nothing. */
 uint64_t thermostat_step(uint8_t own, uint8_t *map, size_t map_len, const uint8_t *bytes, size_t len, uint8_t *out, size_t room);
 
 /* A temperature byte in degrees Celsius, exactly byte/2 - 40. */
@@ -188,8 +201,7 @@ uint64_t x10_write_extended(uint8_t house, uint8_t unit, uint8_t data, uint8_t c
 /* Lists a capture of at most 4,096 bytes as text: from the left, where a whole accepted frame starts it is taken, else that byte
    is noise. A line for each run of noise, `noise OFFSET COUNT`, for each frame, `frame OFFSET COUNT TYPE`, and at last
    `end OFFSET`; all numbers decimal, each line closed by one line feed. A room of 8 * len + 25 bytes is always enough, and quicker.
-   Accepted: bytes written (32); out past them stays. Refused: 3 more than 4,096 bytes; 9 too little room.
-   out does not overlap bytes. The capture 00 5A 01 05 C1 93 5A gives the lines noise 0 1, frame 1 5 5, noise 6 1 and end 7. */
+   Accepted: bytes written (32). Refused: 3 more than 4,096 bytes; 9 too little room. The capture 00 5A 01 05 C1 93 5A gives the lines noise 0 1, frame 1 5 5, noise 6 1 and end 7. */
 uint64_t capture_listing(const uint8_t *bytes, size_t len, uint8_t *out, size_t room);
 
 #ifdef __cplusplus
