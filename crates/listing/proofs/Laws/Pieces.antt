@@ -73,39 +73,42 @@ quiet-more s from at q h e =
       same = q .same ∙ noise-byte s at (at - from) h e ∙ ap (λ (n : ℕ). linesFrom (at + 1) n 0 (drop (at + 1) s)) more;
     }
 
+-- behind noise stands a frame or the end: the run's line is closed there
+module _ (s : List ℕ) (to run : ℕ) where
+  closed-at-end : length s ≤ to → linesFrom to run 0 (drop to s) ≡ afterNoise to run (linesFrom to 0 0 (drop to s))
+  unfolding linesFrom afterNoise
+  closed-at-end h =
+      let none : drop to s ≡ [] = drop-of-length-le s {i = to} h in
+      ap (linesFrom to run 0) none ∙ ap (λ (x : List ℕ). afterNoise to run (linesFrom to 0 0 x)) (sym none)
+
+  closed-at-frame : starts (drop to s) ≡ true → linesFrom to run 0 (drop to s) ≡ afterNoise to run (linesFrom to 0 0 (drop to s))
+  unfolding afterNoise
+  closed-at-frame h =
+      let f = accepted-starts (drop to s) h .0 in
+      let e = accepted-starts (drop to s) h .1 in
+      a-frame (drop to s) to run f e ∙ ap (afterNoise to run) (sym (a-frame (drop to s) to 0 f e))
+
+  pub closed : (to < length s → starts (drop to s) ≡ true) → linesFrom to run 0 (drop to s) ≡ afterNoise to run (linesFrom to 0 0 (drop to s))
+  closed found = go (ltb to (length s)) refl
+    where
+      go : (t : Bool) → ltb to (length s) ≡ t → linesFrom to run 0 (drop to s) ≡ afterNoise to run (linesFrom to 0 0 (drop to s))
+      go true e = closed-at-frame (found (ltb-true to (length s) e))
+      go false e = closed-at-end (ltb-false to (length s) e)
+
 text-after : (offset run : ℕ) (ls : List Line) → text (afterNoise offset run ls) ≡ runText (offset - run) run ++ text ls
 unfolding afterNoise runText text
 text-after offset zero ls = refl
 text-after offset (suc run) ls = refl
 
-module _ (s : List ℕ) (from to : ℕ) (q : Quiet s from to) where
-  back : to - (to - from) ≡ from
-  back = omega (arith, q .forward)
-
-  up-to-end : to ≡ length s → rest s from ≡ runText from (to - from) ++ rest s to
-  unfolding rest linesFrom afterNoise
-  up-to-end e =
-      let none : drop to s ≡ [] = drop-of-length-le s {i = to} (omega arith) in
-      ap text (q .same ∙ ap (linesFrom to (to - from) 0) none)
-      ∙ text-after to (to - from) (end to ∷ [])
-      ∙ ap₂ (λ (n : ℕ) (x : List ℕ). runText n (to - from) ++ text (linesFrom to 0 0 x)) back (sym none)
-
-  up-to-frame : starts (drop to s) ≡ true → rest s from ≡ runText from (to - from) ++ rest s to
-  unfolding rest afterNoise
-  up-to-frame h =
-      let f = accepted-starts (drop to s) h .0 in
-      let e = accepted-starts (drop to s) h .1 in
-      ap text (q .same ∙ a-frame (drop to s) to (to - from) f e)
-      ∙ text-after to (to - from) _
-      ∙ ap₂ (λ (n : ℕ) (ls : List Line). runText n (to - from) ++ text ls) back (sym (a-frame (drop to s) to 0 f e))
-
-  -- noise up to a frame or the end
-  pub noise-then : (to < length s → starts (drop to s) ≡ true) → rest s from ≡ runText from (to - from) ++ rest s to
-  noise-then found = go (ltb to (length s)) refl
-    where
-      go : (t : Bool) → ltb to (length s) ≡ t → rest s from ≡ runText from (to - from) ++ rest s to
-      go true e = up-to-frame (found (ltb-true to (length s) e))
-      go false e = up-to-end (le-antisymm (q .within) (ltb-false to (length s) e))
+-- the text of noise up to a frame or the end
+pub noise-then : (s : List ℕ) (from to : ℕ) → Quiet s from to → (to < length s → starts (drop to s) ≡ true)
+    → rest s from ≡ runText from (to - from) ++ rest s to
+unfolding rest
+noise-then s from to q found =
+    let back : to - (to - from) ≡ from = omega (arith, q .forward) in
+    ap text (q .same ∙ closed s to (to - from) found)
+    ∙ text-after to (to - from) _
+    ∙ ap (λ (n : ℕ). runText n (to - from) ++ text (linesFrom to 0 0 (drop to s))) back
 
 -- at the end there is only its line
 pub rest-at-end : (s : List ℕ) (at : ℕ) → length s ≤ at → rest s at ≡ lineText (end at)
