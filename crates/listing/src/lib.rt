@@ -18,7 +18,7 @@ ghost use Rattle.listing.specs.Parts.{Within, foundText};
 
 const MAX_CAPTURE: usize = 4096;
 
-// A capture is short where a small list holds its frames: the longer one costs more to make than they do to find.
+// The longest capture that has a short list for its frames: clearing a list for any capture takes longer than listing a short one.
 const SHORT_CAPTURE: usize = 64;
 
 // Most frames of a short capture, and of any: a frame has at least 5 bytes.
@@ -45,7 +45,7 @@ fn has_room(found: &[u32], len: usize, room: usize) -> bool
     size <= room
 }
 
-// Writes the listing of a capture, with a list for its frames: too little room is 9.
+// Writes the listing of a capture, whose frames are kept in a lent list: too little room is 9.
 fn write_with(bytes: &[u8], found: &mut [u32], out: &mut [u8]) -> Written
     requires { ⌜ length (now bytes) ≤ 4096 ⌝ }
     requires { ⌜ length (now bytes) < 5 * (length (now found) + 1) ⌝ }
@@ -60,6 +60,7 @@ fn write_with(bytes: &[u8], found: &mut [u32], out: &mut [u8]) -> Written
     Written::Count(size as u32)
 }
 
+// With a list for a short capture.
 fn write_short(bytes: &[u8], out: &mut [u8]) -> Written
     requires { ⌜ length (now bytes) ≤ 64 ⌝ }
     ensures { λ r. ⌜ writtenOf r ≡ onAccepted length (inRoom (length (now (out .entry))) (listing (now (bytes .entry)))) ⌝ }
@@ -69,6 +70,7 @@ fn write_short(bytes: &[u8], out: &mut [u8]) -> Written
     write_with(bytes, &mut found, out)
 }
 
+// With a list for any capture.
 fn write_any(bytes: &[u8], out: &mut [u8]) -> Written
     requires { ⌜ length (now bytes) ≤ 4096 ⌝ }
     ensures { λ r. ⌜ writtenOf r ≡ onAccepted length (inRoom (length (now (out .entry))) (listing (now (bytes .entry)))) ⌝ }
