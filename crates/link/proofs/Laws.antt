@@ -1,5 +1,6 @@
 pub mod Bytes
 pub mod Distance
+pub mod First
 pub mod Ladder
 pub mod RoundTrip
 pub mod Whole

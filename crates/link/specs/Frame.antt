@@ -40,6 +40,10 @@ readFrame s =
     (refuseIf (eqb (length s) 1) 1
     (readBody s (getD s 1 0))))
 
+-- the frame that starts a byte string, whatever stands behind it: its length byte says how many bytes are its own
+unfoldable pub readFirst : List ℕ → Outcome Frame
+readFirst s = readFrame (take (getD s 1 0 + 4) s)
+
 -- what the CRC covers, to be written: length, type and data
 abbrev pub body : ℕ → List ℕ → List ℕ
 body kind bytes = (length bytes + 1) ∷ kind ∷ bytes
@@ -51,6 +55,10 @@ frameBytes kind bytes = 0x5A ∷ (body kind bytes ++ (crc (body kind bytes) % 25
 -- the frame writer: more than 64 data bytes is 3
 unfoldable pub writeFrame : ℕ → List ℕ → Outcome (List ℕ)
 writeFrame kind bytes = refuseIf (ltb 64 (length bytes)) 3 (accepted (frameBytes kind bytes))
+
+-- the bytes of a frame, in all: 5 besides its data
+abbrev pub size : Frame → ℕ
+size f = length (f .bytes) + 5
 
 -- what the reader hands back of a frame in numbers: its type and the count of its data bytes
 pub record Header : Type 0 where

@@ -4,12 +4,12 @@ ghost use mathlib.Core.Path.{_≡_};
 ghost use Prim.Native.Nat.{_+_, _*_, _/_, _%_, _≤_};
 ghost use mathlib.Core.List.{_∷_, _++_};
 ghost use lib.Dec.{eqb};
-ghost use lib.ListN.{length, take, drop, set};
+ghost use lib.ListN.{length, getD, take, drop, set};
 ghost use Rattle.answer.specs.Answer.{accepted, onAccepted, inRoom, outAfter, writtenOf};
 ghost use Rattle.crc.specs.Crc.{crc};
-ghost use Rattle.link.specs.Frame.{readFrame, writeFrame, frameBytes, header, outcomeOf, dataPart, covered, sent};
+ghost use Rattle.link.specs.Frame.{readFrame, readFirst, writeFrame, frameBytes, header, outcomeOf, dataPart, covered, sent};
 
-const START: u8 = 0x5A;
+pub const START: u8 = 0x5A;
 
 const MAX_LENGTH: u8 = 0x41;
 
@@ -69,6 +69,29 @@ pub fn read(bytes: &[u8]) -> FrameRead
         return FrameRead::Accepted { kind, count };
     }
     FrameRead::Refused(Refusal::Checksum)
+}
+
+// How many bytes the frame that starts a byte string has by its length byte, as far as they are there.
+fn first_size(bytes: &[u8]) -> usize
+    ensures within { λ r. ⌜ r ≤ length (now (bytes .entry)) ⌝ }
+    ensures same { λ r. ⌜ take r (now (bytes .entry)) ≡ take (getD (now (bytes .entry)) 1 0 + 4) (now (bytes .entry)) ⌝ }
+{
+    if bytes.len() < 2 {
+        return bytes.len();
+    }
+    let size = bytes[1] as usize + 4;
+    if bytes.len() < size {
+        return bytes.len();
+    }
+    size
+}
+
+// Reads the frame that starts a byte string, whatever stands behind it. Its length byte says how many bytes are its own.
+pub fn read_first(bytes: &[u8]) -> FrameRead
+    ensures { λ r. ⌜ outcomeOf r ≡ onAccepted header (readFirst (now (bytes .entry))) ⌝ }
+{
+    let size = first_size(bytes);
+    read(&bytes[..size])
 }
 
 // The data bytes of a frame that was accepted with this count, as a part of it. Of any other byte string, as many bytes from the

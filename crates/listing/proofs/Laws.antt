@@ -1,5 +1,6 @@
 pub mod Answers
 pub mod Faithful
+pub mod Found
 pub mod Frames
 pub mod Numbers
 pub mod Output

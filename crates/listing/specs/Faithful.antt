@@ -7,29 +7,13 @@ use Rattle.answer.specs.Answer.{accepted}
 use Rattle.link.specs.Frame.{Frame, readFrame}
 use Rattle.listing.specs.Lines.{Line, noise, frame, end}
 
--- the offset of a line, and how many bytes it stands for
-abbrev pub offsetOf : Line → ℕ
-offsetOf (noise offset count) = offset
-offsetOf (frame offset count kind) = offset
-offsetOf (end offset) = offset
+-- at none of so many bytes from an offset on starts an accepted frame, of any length
+abbrev pub NoFrame : List ℕ → ℕ → ℕ → Type 0
+NoFrame s offset count = (i n : ℕ) (f : Frame) → i < count → readFrame (take n (drop (offset + i) s)) ≡ accepted f → ⊥
 
-abbrev pub countOf : Line → ℕ
-countOf (noise offset count) = count
-countOf (frame offset count kind) = count
-countOf (end offset) = 0
-
--- what a line says of the capture: at no byte of a noise line starts an accepted frame, of any length; the bytes of a frame line are
--- an accepted frame of that type; the end is the capture's
-abbrev pub Right : List ℕ → Line → Type 0
-Right s (noise offset count) =
-    (0 < count) × ((i n : ℕ) (f : Frame) → i < count → readFrame (take n (drop (offset + i) s)) ≡ accepted f → ⊥)
-Right s (frame offset count kind) = (f : Frame) × (readFrame (take count (drop offset s)) ≡ accepted f) × (f .kind ≡ kind)
-Right s (end offset) = offset ≡ length s
-
--- from an offset on, each line starts where the one before it stopped and is right, and the last stops where the capture does
-abbrev pub Tells : List ℕ → ℕ → List Line → Type 0
-Tells s at [] = at ≡ length s
-Tells s at (l ∷ ls) = (offsetOf l ≡ at) × Right s l × Tells s (at + countOf l) ls
+-- so many bytes from an offset on are an accepted frame of a type
+abbrev pub IsFrame : List ℕ → ℕ → ℕ → ℕ → Type 0
+IsFrame s offset count kind = (f : Frame) × (readFrame (take count (drop offset s)) ≡ accepted f) × (f .kind ≡ kind)
 
 -- joined noise is one run: no noise line follows another
 abbrev pub NotNoise : List Line → Type 0
@@ -38,11 +22,14 @@ NotNoise (noise offset count ∷ ls) = ⊥
 NotNoise (frame offset count kind ∷ ls) = Unit {0}
 NotNoise (end offset ∷ ls) = Unit {0}
 
-abbrev pub Joined : List Line → Type 0
-Joined [] = Unit {0}
-Joined (noise offset count ∷ ls) = NotNoise ls × Joined ls
-Joined (frame offset count kind ∷ ls) = Joined ls
-Joined (end offset ∷ ls) = Joined ls
+-- from an offset on, each line starts where the one before it stopped, and says what stands there; the last, and no other, is the
+-- end line, and it stands where the capture ends
+abbrev pub Tells : List ℕ → ℕ → List Line → Type 0
+Tells s at [] = ⊥
+Tells s at (noise offset count ∷ ls) = (offset ≡ at) × (0 < count) × NoFrame s at count × NotNoise ls × Tells s (at + count) ls
+Tells s at (frame offset count kind ∷ ls) = (offset ≡ at) × IsFrame s at count kind × Tells s (at + count) ls
+Tells s at (end offset ∷ ls) = (offset ≡ at) × (at ≡ length s) × (ls ≡ [])
 
+-- the lines tell the capture from its first byte to its end
 abbrev pub Faithful : List ℕ → List Line → Type 0
-Faithful s ls = Tells s 0 ls × Joined ls
+Faithful s ls = Tells s 0 ls

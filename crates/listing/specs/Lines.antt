@@ -1,23 +1,14 @@
 -- Document 01, "The capture listing": the lines of a capture.
 use Prim.Native.Nat.{ℕ, zero, suc, _+_, _-_}
 use mathlib.Core.List.{List, [], _∷_}
-use lib.ListN.{length, getD, take}
 use Rattle.answer.specs.Answer.{Outcome, refused, accepted}
-use Rattle.link.specs.Frame.{Frame, readFrame}
+use Rattle.link.specs.Frame.{Frame, readFirst, size}
 
 -- a line: a run of noise, with offset and byte count; a frame, with offset, byte count and type; the end, with its offset
 pub data Line : Type 0 where
   noise : ℕ → ℕ → Line
   frame : ℕ → ℕ → ℕ → Line
   end : ℕ → Line
-
--- the frame that starts the bytes, if a whole accepted one does: its length byte says how many bytes it has
-unfoldable pub frameAt : List ℕ → Outcome Frame
-frameAt s = readFrame (take (getD s 1 0 + 4) s)
-
--- the bytes of a frame, in all
-abbrev pub size : Frame → ℕ
-size f = length (f .bytes) + 5
 
 -- what follows from a refusal, or from a frame
 abbrev pub judged : Outcome Frame → (ℕ → List Line) → (Frame → List Line) → List Line
@@ -35,7 +26,7 @@ unfoldable pub linesFrom : ℕ → ℕ → ℕ → List ℕ → List Line
 linesFrom offset run taken [] = afterNoise offset run (end offset ∷ [])
 linesFrom offset run (suc taken) (b ∷ s) = linesFrom (offset + 1) run taken s
 linesFrom offset run zero (b ∷ s) =
-    judged (frameAt (b ∷ s))
+    judged (readFirst (b ∷ s))
     (λ n. linesFrom (offset + 1) (run + 1) 0 s)
     (λ f. afterNoise offset run (frame offset (size f) (f .kind) ∷ linesFrom (offset + 1) 0 (size f - 1) s))
 

@@ -11,7 +11,7 @@ use Rattle.answer.specs.Answer.{refused, accepted, refuseIf, inRoom}
 use Rattle.answer.proofs.Laws.Output.{no-room, with-room}
 use Rattle.listing.specs.Lines.{lines}
 use Rattle.listing.specs.Text.{text, listing}
-use Rattle.listing.specs.Parts.{rest}
+use Rattle.listing.specs.Parts.{rest, foundText, Told}
 use Rattle.listing.proofs.Laws.Sizes.{enough-room}
 
 module _ (s : List ℕ) (room : ℕ) where
@@ -29,6 +29,17 @@ module _ (s : List ℕ) (room : ℕ) where
 
     pub fits : length (rest s 0) ≤ room → inRoom room (listing s) ≡ accepted (rest s 0)
     fits h = ap (inRoom room) listed ∙ with-room room (rest s 0) h
+
+-- the same by the frames found
+module _ (s es : List ℕ) (small : length s ≤ 4096) (t : Told s 0 es) where
+  pub found-size : ((i : ℕ) → getD s i 0 < 10000) → length (foundText 0 es (length s)) ≤ 8 * length s + 25
+  found-size bytes = rw (t .same) at (enough-room s bytes small)
+
+  pub found-too-little : (room : ℕ) → room < length (foundText 0 es (length s)) → inRoom room (listing s) ≡ refused 9
+  found-too-little room h = too-little s room small (omega (arith, ap length (t .same)))
+
+  pub found-fits : (room : ℕ) → length (foundText 0 es (length s)) ≤ room → inRoom room (listing s) ≡ accepted (foundText 0 es (length s))
+  found-fits room h = fits s room small (omega (arith, ap length (t .same))) ∙ ap accepted (t .same)
 
 -- a room that is always enough changes no answer
 pub any-capture : (s : List ℕ) (room : ℕ) → ((i : ℕ) → getD s i 0 < 10000) → 8 * 4096 + 25 ≤ room → inRoom room (listing s) ≡ listing s

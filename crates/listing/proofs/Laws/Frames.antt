@@ -1,99 +1,79 @@
--- Where a frame starts. Assumes nothing.
-use mathlib.Core.Path.{_≡_, refl, sym, ap, ap₂, _∙_}
-use mathlib.Core.Bool.{Bool, true, false}
-use mathlib.Core.List.{List, [], _∷_, _++_}
-use Prim.Native.Nat.{ℕ, zero, suc, min, _+_, _-_, _<_, _≤_}
+-- What stands at a place. Assumes nothing.
+use mathlib.Core.Path.{_≡_, refl, sym, ap, _∙_}
+use mathlib.Core.List.{List}
+use Prim.Native.Nat.{ℕ, _+_, _*_, _/_, _%_, _<_, _≤_}
 use native.Mathlib.Nat.{add-zero}
 use native.Mathlib.Omega.{arith}
-use lib.ListN.{length, getD, take, drop, length-take, length-drop}
-use lib.Seq.{getD-take, getD-drop, take-take, take-length}
+use lib.ListN.{length, getD, drop, length-drop}
+use lib.Seq.{getD-drop}
 use Rattle.answer.specs.Answer.{Outcome, refused, accepted, onAccepted}
-use Rattle.link.specs.Frame.{Frame, header, readFrame}
-use Rattle.link.proofs.Laws.Whole.{Whole, whole, counted, few}
-use Rattle.listing.specs.Lines.{frameAt, size}
-use Rattle.listing.specs.Parts.{isAccepted, starts}
+use Rattle.link.specs.Frame.{Frame, Header, header, readFirst, size}
+use Rattle.link.proofs.Laws.First.{Starting, starting}
+use Rattle.listing.specs.Parts.{judgement, offsetIn, Stands}
 
--- what is known of the bytes where a frame starts
-pub record Starting (s : List ℕ) (f : Frame) : Type 0 where
-  pub start : getD s 0 0 ≡ 0x5A
-  pub count : size f ≡ getD s 1 0 + 4
-  pub inside : size f ≤ length s
-  pub kind : f .kind ≡ getD s 2 0
+-- an outcome that accepts no frame
+pub refused-by : (o : Outcome Frame) → ((f : Frame) → o ≡ accepted f → ⊥) → (n : ℕ) × (o ≡ refused n)
+refused-by (refused n) h = (n, refl)
+refused-by (accepted f) h = absurd (h f refl)
 
-pub starting : (s : List ℕ) (f : Frame) → frameAt s ≡ accepted f → Starting s f
-unfolding frameAt
-starting s f e =
-    let n = getD s 1 0 + 4 in
-    let w : Whole (take n s) f = whole (take n s) f e in
-    let c : size f ≡ length (take n s) = counted (take n s) f e in
-    let l : getD (take n s) 1 0 ≡ getD s 1 0 = getD-take n s 1 0 (omega arith) in
-    let t : length (take n s) ≡ min n (length s) = length-take n s in
-    record {
-      start = sym (getD-take n s 0 0 (omega arith)) ∙ w .start;
-      count = omega (arith, w .whole);
-      inside = omega arith;
-      kind = ap (λ (g : Frame). g .kind) (w .is) ∙ getD-take n s 2 0 (omega arith);
-    }
+-- the number that the code makes of the reader's answer
+pub judged-refused : (at n : ℕ) (o : Outcome Frame) → refused n ≡ onAccepted header o → 0 ≡ judgement at o
+unfolding judgement
+judged-refused at n (refused k) e = refl
+judged-refused at n (accepted f) e = let z : _≡_ {A = ℕ} 0 1 = cc in let no-way : ⊥ = omega arith in absurd no-way
 
--- a frame of any length that starts here is the one that the length byte names
-pub only-one : (s : List ℕ) (n : ℕ) (f : Frame) → readFrame (take n s) ≡ accepted f → frameAt s ≡ accepted f
-unfolding frameAt
-only-one s n f e =
-    let w : Whole (take n s) f = whole (take n s) f e in
-    let t : length (take n s) ≡ min n (length s) = length-take n s in
-    let l : getD (take n s) 1 0 ≡ getD s 1 0 = getD-take n s 1 0 (omega (arith, w .whole)) in
-    let m : getD s 1 0 + 4 ≡ length (take n s) = omega (arith, w .whole) in
-    ap (λ (k : ℕ). readFrame (take k s)) m
-    ∙ ap readFrame (sym (take-take (length (take n s)) n s (omega arith)) ∙ take-length (take n s))
-    ∙ e
+pub judged-frame : (at kind count : ℕ) (o : Outcome Frame) → accepted (record { kind = kind; count = count }) ≡ onAccepted header o
+    → at * 65536 + (count + 5) * 256 + kind ≡ judgement at o
+unfolding judgement
+judged-frame at kind count (refused k) e = let z : _≡_ {A = ℕ} 0 1 = cc in let no-way : ⊥ = omega arith in absurd no-way
+judged-frame at kind count (accepted f) e =
+    let h : _≡_ {A = Header} (record { kind = kind; count = count }) (header f) = cc in
+    let k : kind ≡ f .kind = ap (λ (x : Header). x .kind) h in
+    let n : count ≡ length (f .bytes) = ap (λ (x : Header). x .count) h in
+    omega arith
 
--- its judgement, as a flag
-pub accepted-starts : (s : List ℕ) → starts s ≡ true → (f : Frame) × (frameAt s ≡ accepted f)
-unfolding starts
-accepted-starts s h = go (frameAt s) refl h
-  where
-    go : (o : Outcome Frame) → frameAt s ≡ o → isAccepted o ≡ true → (f : Frame) × (frameAt s ≡ accepted f)
-    go (refused n) e h = let z : _≡_ {A = ℕ} 0 1 = cc in let no-way : ⊥ = omega arith in absurd no-way
-    go (accepted f) e h = (f, e)
-
-pub refused-starts : (s : List ℕ) → starts s ≡ false → (n : ℕ) × (frameAt s ≡ refused n)
-unfolding starts
-refused-starts s h = go (frameAt s) refl h
-  where
-    go : (o : Outcome Frame) → frameAt s ≡ o → isAccepted o ≡ false → (n : ℕ) × (frameAt s ≡ refused n)
-    go (refused n) e h = (n, e)
-    go (accepted f) e h = let z : _≡_ {A = ℕ} 0 1 = cc in let no-way : ⊥ = omega arith in absurd no-way
-
-pub is-start : (s : List ℕ) (f : Frame) → frameAt s ≡ accepted f → starts s ≡ true
-unfolding starts
-is-start s f e = ap isAccepted e
-
-pub no-start : (s : List ℕ) → ((f : Frame) → frameAt s ≡ accepted f → ⊥) → starts s ≡ false
-unfolding starts
-no-start s h = go (frameAt s) refl
-  where
-    go : (o : Outcome Frame) → frameAt s ≡ o → isAccepted o ≡ false
-    go (refused n) e = refl
-    go (accepted f) e = absurd (h f e)
-
--- at an offset of a longer string
+-- at an offset of the capture
 module _ (s : List ℕ) (at : ℕ) where
-  pub other-byte : (getD s at 0 ≡ 0x5A → ⊥) → starts (drop at s) ≡ false
-  other-byte h =
-      no-start (drop at s)
-      (λ f e. h (sym (getD-drop at s 0 0 ∙ ap (λ (n : ℕ). getD s n 0) (add-zero at)) ∙ starting (drop at s) f e .start))
+  pub other-byte : (getD s at 0 ≡ 0x5A → ⊥) → (f : Frame) → readFirst (drop at s) ≡ accepted f → ⊥
+  other-byte h f e = h (sym (getD-drop at s 0 0 ∙ ap (λ (n : ℕ). getD s n 0) (add-zero at)) ∙ starting (drop at s) f e .start)
 
-  pub too-few : length s - at < getD s (at + 1) 0 + 4 → starts (drop at s) ≡ false
-  too-few h =
-      no-start (drop at s)
-      (λ f e. omega (arith, starting (drop at s) f e .count, starting (drop at s) f e .inside, getD-drop at s 1 0, length-drop at s))
+  pub judged-other : (getD s at 0 ≡ 0x5A → ⊥) → 0 ≡ judgement at (readFirst (drop at s))
+  unfolding judgement
+  judged-other h = ap (judgement at) (sym (refused-by (readFirst (drop at s)) (other-byte h) .1))
 
-  pub by-reading : (part : List ℕ) → part ≡ take (getD s (at + 1) 0 + 4) (drop at s) → isAccepted (onAccepted header (readFrame part)) ≡ starts (drop at s)
-  unfolding starts frameAt
-  by-reading part e =
-      as-flag (readFrame part)
-      ∙ ap (λ (p : List ℕ). isAccepted (readFrame p)) (e ∙ ap (λ (n : ℕ). take (n + 4) (drop at s)) (sym (getD-drop at s 1 0)))
+  -- 0 is noise
+  pub judged-none : 0 ≡ judgement at (readFirst (drop at s)) → (f : Frame) → readFirst (drop at s) ≡ accepted f → ⊥
+  unfolding judgement
+  judged-none h f e = omega (arith, h ∙ ap (judgement at) e)
+
+  -- any other number stands for a frame, at this offset
+  pub judged-some : (e : ℕ) → ((i : ℕ) → getD s i 0 < 256) → e ≡ judgement at (readFirst (drop at s)) → (e ≡ 0 → ⊥)
+      → (offsetIn e ≡ at) × Stands s e
+  unfolding judgement
+  judged-some e small h some = go (readFirst (drop at s)) refl
     where
-      as-flag : (o : Outcome Frame) → isAccepted (onAccepted header o) ≡ isAccepted o
-      as-flag (refused n) = refl
-      as-flag (accepted f) = refl
+      go : (o : Outcome Frame) → readFirst (drop at s) ≡ o → (offsetIn e ≡ at) × Stands s e
+      go (refused n) is = absurd (some (h ∙ ap (judgement at) is))
+      go (accepted f) is =
+          let w : Starting (drop at s) f = starting (drop at s) f is in
+          let k : f .kind < 256 = w .kind 256 (λ i. omega (arith, small (at + i), getD-drop at s i 0)) in
+          let whole : e ≡ at * 65536 + size f * 256 + f .kind = h ∙ ap (judgement at) is in
+          let here : offsetIn e ≡ at = omega (arith, w .most) in (
+            here,
+            record {
+              held = f;
+              read = ap (λ (n : ℕ). readFirst (drop n s)) here ∙ is;
+              count = omega (arith, w .most);
+              kind = omega (arith, w .most);
+            },
+          )
+
+-- a frame lies inside the capture, and has at least 5 bytes
+pub record Inside (s : List ℕ) (e : ℕ) : Type 0 where
+  pub most : e / 65536 + e / 256 % 256 ≤ length s
+  pub least : 5 ≤ e / 256 % 256
+
+pub inside : {s : List ℕ} {e : ℕ} → Stands s e → Inside s e
+inside {s} {e} t =
+    let w : Starting (drop (offsetIn e) s) (t .held) = starting (drop (offsetIn e) s) (t .held) (t .read) in
+    record { most = omega (arith, w .inside, w .least, t .count, length-drop (offsetIn e) s); least = omega (arith, w .least, t .count) }

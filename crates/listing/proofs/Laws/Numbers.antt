@@ -1,5 +1,5 @@
 -- Numbers in decimal, and the lengths of texts. Assumes nothing.
-use mathlib.Core.Path.{_≡_, refl, sym, ap, ap₂, _∙_}
+use mathlib.Core.Path.{_≡_, refl, ap, ap₂, _∙_}
 use mathlib.Core.Bool.{Bool, true, false, cond}
 use mathlib.Core.List.{List, [], _∷_, _++_}
 use Prim.Native.Nat.{ℕ, zero, suc, _+_, _*_, _-_, _/_, _%_, _<_, _≤_}
@@ -39,21 +39,27 @@ from-10 n h =
 pub below-100 : (n : ℕ) → 10 ≤ n → n < 100 → number n ≡ digit (n / 10) ∷ digit (n % 10) ∷ []
 below-100 n l h = from-10 n l ∙ ap (λ (d : List ℕ). d ++ (digit (n % 10) ∷ [])) (below-10 (n / 10) (omega arith))
 
-pub below-1000 : (n : ℕ) → 100 ≤ n → n < 1000 → number n ≡ digit (n / 100) ∷ digit (n / 10 % 10) ∷ digit (n % 10) ∷ []
+-- longer numbers by their last two digits and what stands before them
+pub below-1000 : (n : ℕ) → 100 ≤ n → n < 1000 → number n ≡ digit (n / 100) ∷ digit (n % 100 / 10) ∷ digit (n % 100 % 10) ∷ []
 below-1000 n l h =
-    let e : n / 10 / 10 ≡ n / 100 = omega arith in
+    let first : n / 10 / 10 ≡ n / 100 = omega arith in
+    let second : n / 10 % 10 ≡ n % 100 / 10 = omega arith in
+    let third : n % 10 ≡ n % 100 % 10 = omega arith in
     from-10 n (omega arith)
     ∙ ap (λ (d : List ℕ). d ++ (digit (n % 10) ∷ [])) (below-100 (n / 10) (omega arith) (omega arith))
-    ∙ ap {B = List ℕ} (λ (d : ℕ). digit d ∷ digit (n / 10 % 10) ∷ digit (n % 10) ∷ []) e
+    ∙ ap₂ {C = List ℕ} (λ (d f : ℕ). digit d ∷ digit f ∷ digit (n % 10) ∷ []) first second
+    ∙ ap {B = List ℕ} (λ (d : ℕ). digit (n / 100) ∷ digit (n % 100 / 10) ∷ digit d ∷ []) third
 
 pub below-10000 : (n : ℕ) → 1000 ≤ n → n < 10000
-    → number n ≡ digit (n / 1000) ∷ digit (n / 100 % 10) ∷ digit (n / 10 % 10) ∷ digit (n % 10) ∷ []
+    → number n ≡ digit (n / 100 / 10) ∷ digit (n / 100 % 10) ∷ digit (n % 100 / 10) ∷ digit (n % 100 % 10) ∷ []
 below-10000 n l h =
-    let e : n / 10 / 100 ≡ n / 1000 = omega arith in
-    let g : n / 10 / 10 ≡ n / 100 = omega arith in
+    let front : n / 10 / 10 ≡ n / 100 = omega arith in
+    let third : n / 10 % 10 ≡ n % 100 / 10 = omega arith in
+    let fourth : n % 10 ≡ n % 100 % 10 = omega arith in
     from-10 n (omega arith)
-    ∙ ap (λ (d : List ℕ). d ++ (digit (n % 10) ∷ [])) (below-1000 (n / 10) (omega arith) (omega arith))
-    ∙ ap₂ {C = List ℕ} (λ (d f : ℕ). digit d ∷ digit (f % 10) ∷ digit (n / 10 % 10) ∷ digit (n % 10) ∷ []) e g
+    ∙ ap (λ (d : List ℕ). d ++ (digit (n % 10) ∷ [])) (from-10 (n / 10) (omega arith))
+    ∙ ap (λ (d : List ℕ). (d ++ (digit (n / 10 % 10) ∷ [])) ++ (digit (n % 10) ∷ [])) (ap number front ∙ below-100 (n / 100) (omega arith) (omega arith))
+    ∙ ap₂ {C = List ℕ} (λ (d f : ℕ). digit (n / 100 / 10) ∷ digit (n / 100 % 10) ∷ digit d ∷ digit f ∷ []) third fourth
 
 -- the digits spell the number
 spelt-behind : (before d : ℕ) (ds : List ℕ) → spelt before (ds ++ (d ∷ [])) ≡ spelt before ds * 10 + (d - 0x30)

@@ -1,7 +1,7 @@
 -- Bytes put into the output one part after another. Assumes nothing.
-use mathlib.Core.Path.{_≡_, refl, sym, ap, ap₂, _∙_}
+use mathlib.Core.Path.{_≡_, sym, ap, ap₂, _∙_}
 use mathlib.Core.List.{List, [], _∷_, _++_, append-assoc, append-nil}
-use Prim.Native.Nat.{ℕ, suc, _+_, _<_, _≤_}
+use Prim.Native.Nat.{ℕ, suc, _+_, _≤_}
 use native.Mathlib.Nat.{add-zero, add-assoc}
 use native.Mathlib.Numerals.{towards-suc}
 use native.Mathlib.Omega.{arith}
@@ -101,3 +101,6 @@ unfolding placed
 from-start {next} {xs} {old} p =
     let e : 0 + length xs ≡ length xs = omega arith in
     p .put ∙ ap (λ (n : ℕ). xs ++ drop n old) e
+
+pub size-from-start : {next : ℕ} {xs old after : List ℕ} → Put 0 xs old after next → next ≡ length xs
+size-from-start p = omega (arith, p .moved)

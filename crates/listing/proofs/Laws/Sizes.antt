@@ -1,18 +1,16 @@
 -- How long the listing's text is. Assumes nothing.
-use mathlib.Core.Path.{_≡_, refl, sym, ap, _∙_}
-use mathlib.Core.Bool.{Bool, true, false}
-use mathlib.Core.List.{List, [], _∷_, _++_}
+use mathlib.Core.Path.{_≡_, refl}
+use mathlib.Core.List.{List, [], _∷_}
 use Prim.Native.Nat.{ℕ, zero, suc, _+_, _-_, _*_, _<_, _≤_}
 use native.Mathlib.Omega.{arith}
-use lib.ListN.{length, getD, take, drop, length-append}
+use lib.ListN.{length, getD, length-append}
 use Rattle.answer.specs.Answer.{Outcome, refused, accepted}
-use Rattle.link.specs.Frame.{Frame}
-use Rattle.listing.specs.Lines.{Line, noise, frame, end, linesFrom, frameAt, size, afterNoise, judged}
-use Rattle.listing.specs.Text.{number, lineText, text}
-use Rattle.listing.specs.Parts.{starts, runText, rest, Quiet}
-use Rattle.listing.proofs.Laws.Frames.{Starting, starting}
+use Rattle.link.specs.Frame.{Frame, readFirst, size}
+use Rattle.link.proofs.Laws.First.{Starting, starting}
+use Rattle.listing.specs.Lines.{Line, noise, frame, end, linesFrom, afterNoise, judged}
+use Rattle.listing.specs.Text.{lineText, text}
+use Rattle.listing.specs.Parts.{runText, rest}
 use Rattle.listing.proofs.Laws.Numbers.{at-most-four, noise-length, frame-length, end-length}
-use Rattle.listing.proofs.Laws.Pieces.{noise-then, frame-then, rest-at-end}
 
 -- a run's line is at most 16 bytes long
 pub run-bound : (offset count : ℕ) → offset < 10000 → count < 10000 → length (runText offset count) ≤ 16
@@ -34,18 +32,16 @@ after-bound offset (suc n) ls h g =
       at-most-four (suc n) g,
     )
 
+-- a frame's line is at most 21 bytes long
+pub frame-line : (offset count kind : ℕ) → offset < 10000 → count < 10000 → kind < 10000 → length (lineText (frame offset count kind)) ≤ 21
+frame-line offset count kind h g k =
+    omega (arith, frame-length offset count kind, at-most-four offset h, at-most-four count g, at-most-four kind k)
+
 frame-bound : (offset count kind : ℕ) (ls : List Line) → offset < 10000 → count < 10000 → kind < 10000
     → length (text (frame offset count kind ∷ ls)) ≤ length (text ls) + 21
 unfolding text
 frame-bound offset count kind ls h g k =
-    omega (
-      arith,
-      length-append (lineText (frame offset count kind)) (text ls),
-      frame-length offset count kind,
-      at-most-four offset h,
-      at-most-four count g,
-      at-most-four kind k,
-    )
+    omega (arith, length-append (lineText (frame offset count kind)) (text ls), frame-line offset count kind h g k)
 
 end-bound : (offset : ℕ) → offset < 10000 → length (text (end offset ∷ [])) ≤ 9
 unfolding text
@@ -61,11 +57,11 @@ bound-from offset run taken [] small r o t =
 bound-from offset run (suc taken) (b ∷ s) small r o t =
     omega (arith, bound-from (offset + 1) run taken s (λ i. small (suc i)) (omega arith) (omega arith) (omega arith))
 bound-from offset run zero (b ∷ s) small r o t =
-    go (frameAt (b ∷ s)) refl
+    go (readFirst (b ∷ s)) refl
     (bound-from (offset + 1) (run + 1) 0 s (λ i. small (suc i)) (omega arith) (omega arith) (omega arith))
     (λ k h. bound-from (offset + 1) 0 k s (λ i. small (suc i)) (omega arith) (omega arith) h)
   where
-    go : (o : Outcome Frame) → frameAt (b ∷ s) ≡ o
+    go : (o : Outcome Frame) → readFirst (b ∷ s) ≡ o
         → length (text (linesFrom (offset + 1) (run + 1) 0 s)) ≤ 8 * (length s - 0) + 25
         → ((k : ℕ) → k ≤ length s → length (text (linesFrom (offset + 1) 0 k s)) ≤ 8 * (length s - k) + 25)
         → length (text (judged o
@@ -76,11 +72,12 @@ bound-from offset run zero (b ∷ s) small r o t =
     go (accepted f) e as-noise as-frame =
         let w : Starting (b ∷ s) f = starting (b ∷ s) f e in
         let ls = linesFrom (offset + 1) 0 (size f - 1) s in
-        let kind : f .kind < 10000 = omega (arith, w .kind, small 2) in
+        let kind : f .kind < 10000 = w .kind 10000 small in
         let count : size f < 10000 = omega (arith, w .inside) in
         omega (
           arith,
           w .inside,
+          w .least,
           after-bound offset run (frame offset (size f) (f .kind) ∷ ls) (omega arith) (omega arith),
           frame-bound offset (size f) (f .kind) ls (omega arith) count kind,
           as-frame (size f - 1) (omega (arith, w .inside)),
@@ -90,18 +87,3 @@ bound-from offset run zero (b ∷ s) small r o t =
 pub enough-room : (s : List ℕ) → ((i : ℕ) → getD s i 0 < 10000) → length s ≤ 4096 → length (rest s 0) ≤ 8 * length s + 25
 unfolding rest
 enough-room s small h = omega (arith, bound-from 0 0 0 s small (omega arith) (omega arith) (omega arith))
-
--- the sizes of the listing's pieces add up
-module _ (s : List ℕ) (from to : ℕ) (q : Quiet s from to) (found : to < length s → starts (drop to s) ≡ true) where
-  pub size-of-noise : length (rest s from) ≡ length (runText from (to - from)) + length (rest s to)
-  size-of-noise = ap length (noise-then s from to q found) ∙ length-append (runText from (to - from)) (rest s to)
-
-pub size-of-frame : (s : List ℕ) (at : ℕ) → starts (drop at s) ≡ true
-    → length (rest s at)
-    ≡ length (lineText (frame at (getD s (at + 1) 0 + 4) (getD s (at + 2) 0))) + length (rest s (at + (getD s (at + 1) 0 + 4)))
-size-of-frame s at h =
-    ap length (frame-then s at h)
-    ∙ length-append (lineText (frame at (getD s (at + 1) 0 + 4) (getD s (at + 2) 0))) (rest s (at + (getD s (at + 1) 0 + 4)))
-
-pub size-of-end : (s : List ℕ) (at : ℕ) → length s ≤ at → length (rest s at) ≡ length (lineText (end at))
-size-of-end s at h = ap length (rest-at-end s at h)

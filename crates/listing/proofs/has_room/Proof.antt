@@ -1,14 +1,13 @@
-use Prim.Native.Nat.{ℕ, _+_, _*_, _≤_}
+use Prim.Native.Nat.{ℕ}
 use borrow.Author.Needs.{needs}
 use borrow.Author.Tests.{le-leb}
 use lib.Dec.{leb}
 use lib.ListN.{length}
-use mathlib.Core.Path.{_≡_, sym, ap}
+use mathlib.Core.Path.{sym, ap}
 use native.Mathlib.Omega.{arith}
-use Rattle.listing.proofs.Laws.Sizes.{enough-room}
 use Rattle.listing.proofs.has_room.Statement.{statement}
 use Rattle.listing.proofs.has_room.Tie as tie
-use Rattle.listing.specs.Parts.{rest}
+use Rattle.listing.specs.Parts.{foundText}
 
 mul-if1 : tie.Need-mul-if1
 mul-if1 c = search needs
@@ -19,10 +18,7 @@ add-if1 c = search needs
 returns : tie.Need-returns
 returns c =
     let a = c .before .before .args in
-    let s = a .bytes .now in
-    let known = c .before .shared-slice-known .given in
-    let all : length (rest s 0) ≤ 8 * length s + 25 = enough-room s (λ i. omega (arith, known i)) (c .before .before .pre) in
-    sym (le-leb (length (rest s 0)) (a .room) (omega (arith, c .if1 .taken)))
+    sym (le-leb (length (foundText 0 (a .found .now) (a .len))) (a .room) (omega (arith, c .if1 .taken, c .before .before .pre .1 .1)))
 
 text-size-requires : tie.Need-text-size-requires
 text-size-requires c κs = search needs

@@ -109,8 +109,8 @@ same-length-3 c = search needs
 returns-3 : tie.Need-returns-3
 returns-3 c =
     let a = c .before .before .before .args in
-    let e : number (a .n) ≡ digit (a .n / 100) ∷ digit (a .n / 10 % 10) ∷ digit (a .n % 10) ∷ [] = below-1000 (a .n) (omega arith) (omega arith) in
-    same-bytes (sym e) (stored₃ (a .out .now) (a .at) (digit (a .n / 100)) (digit (a .n / 10 % 10)) (digit (a .n % 10)) (omega (arith, ap length e)))
+    let e : number (a .n) ≡ digit (a .n / 100) ∷ digit (a .n % 100 / 10) ∷ digit (a .n % 100 % 10) ∷ [] = below-1000 (a .n) (omega arith) (omega arith) in
+    same-bytes (sym e) (stored₃ (a .out .now) (a .at) (digit (a .n / 100)) (digit (a .n % 100 / 10)) (digit (a .n % 100 % 10)) (omega (arith, ap length e)))
 
 add-out-10 : tie.Need-add-out-10
 add-out-10 c = search needs
@@ -166,8 +166,8 @@ same-length-4 c = search needs
 returns-4 : tie.Need-returns-4
 returns-4 c =
     let a = c .before .before .before .args in
-    let e : number (a .n) ≡ digit (a .n / 1000) ∷ digit (a .n / 100 % 10) ∷ digit (a .n / 10 % 10) ∷ digit (a .n % 10) ∷ [] = below-10000 (a .n) (omega arith) (omega arith) in
-    same-bytes (sym e) (stored₄ (a .out .now) (a .at) (digit (a .n / 1000)) (digit (a .n / 100 % 10)) (digit (a .n / 10 % 10)) (digit (a .n % 10)) (omega (arith, ap length e)))
+    let e : number (a .n) ≡ digit (a .n / 100 / 10) ∷ digit (a .n / 100 % 10) ∷ digit (a .n % 100 / 10) ∷ digit (a .n % 100 % 10) ∷ [] = below-10000 (a .n) (omega arith) (omega arith) in
+    same-bytes (sym e) (stored₄ (a .out .now) (a .at) (digit (a .n / 100 / 10)) (digit (a .n / 100 % 10)) (digit (a .n % 100 / 10)) (digit (a .n % 100 % 10)) (omega (arith, ap length e)))
 
 pub put-number-spec : {M : Type 1} → statement M
 put-number-spec =

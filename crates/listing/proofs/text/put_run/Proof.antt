@@ -1,8 +1,5 @@
-use Prim.Native.Nat.{ℕ, _+_, _≤_}
 use borrow.Author.Needs.{needs}
-use lib.ListN.{length}
-use mathlib.Core.List.{List}
-use mathlib.Core.Path.{sym, ap}
+use mathlib.Core.Path.{sym}
 use native.Mathlib.Omega.{arith}
 use Rattle.listing.proofs.Laws.Numbers.{no-run, a-run}
 use Rattle.listing.proofs.Laws.Output.{nothing, same-bytes}

@@ -1,6 +1,6 @@
 use borrow.Author.Needs.{needs}
 use lib.ListN.{length}
-use mathlib.Core.Path.{sym, ap, _∙_}
+use mathlib.Core.Path.{sym, ap}
 use native.Mathlib.Omega.{arith}
 use Rattle.listing.proofs.Laws.Numbers.{no-run, a-run, at-most-four, noise-length}
 use Rattle.listing.proofs.text.run_size.Statement.{statement}
