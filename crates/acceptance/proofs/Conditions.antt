@@ -20,7 +20,7 @@ use Rattle.thermostat.specs.Step.{Done, step, changed}
 use Rattle.thermostat.proofs.Laws.Set.{set-stores, set-leaves-the-others, set-stores-none, another-address-leaves, poll-leaves, length-left}
 use Rattle.thermostat.proofs.Laws.Temperature as Temperatures
 use Rattle.tally.proofs.Laws.Run.{exact}
-use Rattle.listing.proofs.Laws.Faithful.{faithful}
+use Rattle.listing.proofs.Laws.Faithful.{faithful, only-faithful}
 use Rattle.acceptance.specs.Conditions.{Condition-2, Messages-read-back, Items, Step-leaves}
 
 messages : Messages-read-back
@@ -93,4 +93,5 @@ condition-2 = record {
   temperatures = record { byte-back = Temperatures.read-after-write; degrees-back = Temperatures.write-after-read };
   exact-sum = exact;
   listing = faithful;
+  only-listing = only-faithful;
 }

@@ -32,7 +32,7 @@ use Rattle.thermostat.specs.Temperature.{celsius, byteOf}
 use Rattle.tally.specs.Run.{Call, Promised, totalFound, sumAccepted}
 use Rattle.x10.specs.Codes.{functionOf}
 use Rattle.x10.specs.Pattern as X10
-use Rattle.listing.specs.Lines.{lines}
+use Rattle.listing.specs.Lines.{Line, lines}
 use Rattle.listing.specs.Faithful.{Faithful}
 
 -- what is written reads back as the same message, and what is read writes back to the same bytes, for the messages and bytes of a format
@@ -101,3 +101,4 @@ pub record Condition-2 : Type 0 where
   pub temperatures : Temperatures
   pub exact-sum : (calls : List Call) → Promised 0 calls → totalFound 0 calls ≡ sumAccepted calls
   pub listing : (s : List ℕ) → Faithful s (lines s)
+  pub only-listing : (s : List ℕ) (ls : List Line) → Faithful s ls → ls ≡ lines s
