@@ -46,7 +46,7 @@ SECONDS = 60
 fuzz: $(LIB)
 	@$(OUTSIDE) --seconds $(SECONDS)
 
-target/bench/%: bench/%.c bench/bench.h bench/frame.h include/gateway.h $(LIB)
+target/bench/%: bench/%.c $(wildcard bench/*.h) include/gateway.h $(LIB)
 	@mkdir -p $(@D)
 	$(CC) $(CFLAGS) -O3 -o $@ $< $(LIB) -lpthread
 
