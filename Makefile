@@ -2,6 +2,7 @@
 # make lib    the static library for C hosts, target/libgateway.a
 # make bench  speed beside plain C at -O3
 # make fuzz SECONDS=..    the comparison with an independent implementation, on random inputs for so long
+# make floats setpoints_to_bytes on every f32 beside that implementation: some minutes, and no part of make test
 # make demo   the example gateway, examples/gateway.c, over two pseudo-terminals
 # make run    the listing of a capture: make run < FILE; of samples/line.capture where standard input is a terminal
 # make install PREFIX=..  the program capture, the library, its header and a pkg-config file
@@ -14,7 +15,7 @@ CAPTURE = target/bin/capture
 TESTS = $(patsubst tests/c/%.c,target/tests/%,$(wildcard tests/c/*.c))
 BENCHES = $(patsubst bench/%.c,target/bench/%,$(filter-out bench/stack.c,$(wildcard bench/*.c)) bench/stack.c)
 
-.PHONY: test lib bench ctest outside fuzz demo run install clean
+.PHONY: test lib bench ctest outside fuzz floats demo run install clean
 
 test:
 	@tests/run
@@ -45,6 +46,9 @@ SECONDS = 60
 
 fuzz: $(LIB)
 	@$(OUTSIDE) --seconds $(SECONDS)
+
+floats: $(LIB)
+	@$(OUTSIDE) --all-floats
 
 target/bench/%: bench/%.c $(wildcard bench/*.h) include/gateway.h $(LIB)
 	@mkdir -p $(@D)
