@@ -1,7 +1,6 @@
 // Omnistat2 messages, for C.
 ghost use mathlib.Core.Path.{_≡_};
-ghost use mathlib.Core.List.{List, [], _∷_};
-ghost use Prim.Native.Nat.{ℕ};
+ghost use mathlib.Core.List.{[], _∷_};
 ghost use lib.ListN.{length};
 ghost use Rattle.answer.specs.Answer.{onAccepted, inRoom, outAfter};
 ghost use Rattle.answer.specs.Packed.{packed, word};

@@ -10,7 +10,7 @@ use borrow.Author.Tests.{leb-true, leb-false}
 use Rattle.answer.specs.Answer.{refused, accepted, refuseIf, onAccepted}
 use Rattle.omnistat.specs.declared.frame.End.{End}
 use Rattle.omnistat.specs.declared.frame.End.the-variants.{Thermostat, Host}
-use Rattle.omnistat.specs.Frame.{Frame, framed, frame, directed, addressOf, firstOf, bytesOf, summed}
+use Rattle.omnistat.specs.Frame.{Frame, frame, directed, addressOf, firstOf, bytesOf, summed}
 use Rattle.omnistat.specs.Message.{Message, asMessage, bodyOf}
 use Rattle.omnistat.specs.Omnistat.{Addressed, addressed, read, write, writeBytes}
 use Rattle.omnistat.specs.Parts.{passed}

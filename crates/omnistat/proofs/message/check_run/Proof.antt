@@ -1,5 +1,4 @@
 use mathlib.Core.Path.{sym, _∙_}
-use mathlib.Core.Bool.{true, false}
 use borrow.Author.Tests.{not-true, not-false}
 use Rattle.omnistat.proofs.Laws.Message.{too-low, too-high, inside}
 use borrow.Author.Needs.{needs}

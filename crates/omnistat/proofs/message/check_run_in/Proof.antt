@@ -1,11 +1,11 @@
-use mathlib.Core.Path.{_≡_, refl, sym, ap, _∙_}
+use mathlib.Core.Path.{_≡_, refl, ap, _∙_}
 use mathlib.Core.List.{List, [], _∷_}
 use Prim.Native.Nat.{ℕ, suc, _-_}
 use mathlib.Core.Bool.{not}
 use native.Mathlib.Omega.{arith}
 use denote.Ref.{now}
 use lib.ListN.{length, getD}
-use Rattle.answer.specs.Answer.{Outcome, refused, accepted, refuseIf}
+use Rattle.answer.specs.Answer.{refused, accepted, refuseIf}
 use Rattle.omnistat.specs.Register.{within, runAllowed}
 use Rattle.omnistat.proofs.Laws.Check.{runChecked}
 use borrow.Author.Needs.{needs}

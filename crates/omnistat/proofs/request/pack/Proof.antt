@@ -1,10 +1,9 @@
-use mathlib.Core.Path.{_≡_, sym, ap, _∙_}
-use mathlib.Core.List.{List, [], _∷_}
+use mathlib.Core.Path.{sym, ap, _∙_}
+use mathlib.Core.List.{[], _∷_}
 use Prim.Native.Nat.{ℕ}
 use denote.Ref.{now}
-use lib.ListN.{length}
 use Rattle.answer.specs.Answer.{Outcome, onAccepted}
-use Rattle.answer.specs.Packed.{Field, packed, byte}
+use Rattle.answer.specs.Packed.{packed, byte}
 use Rattle.omnistat.specs.declared.frame.End.the-variants.{Thermostat}
 use Rattle.omnistat.specs.Group.{pollType}
 use Rattle.omnistat.specs.Message.{Message, setFrom, pollGroup, ofLength}
