@@ -3,6 +3,7 @@
 # make lib    the static library for C hosts, target/libgateway.a
 # make bench  speed beside plain C at -O3
 # make fuzz SECONDS=..    the comparison with an independent implementation, on random inputs for so long
+# make floats setpoints_to_bytes on every f32 beside that implementation: some minutes, and no part of make test
 # make demo   the example gateway, examples/gateway.c, over two pseudo-terminals
 # make run    the listing of a capture: make run < FILE; of samples/line.capture where standard input is a terminal
 # make install PREFIX=..  the program capture, the library, its header and a pkg-config file
@@ -15,7 +16,7 @@ CAPTURE = target/bin/capture
 TESTS = $(patsubst tests/c/%.c,target/tests/%,$(wildcard tests/c/*.c))
 BENCHES = $(patsubst bench/%.c,target/bench/%,$(filter-out bench/stack.c,$(wildcard bench/*.c)) bench/stack.c)
 
-.PHONY: test wrong lib bench ctest outside fuzz demo run install clean
+.PHONY: test wrong lib bench ctest outside fuzz floats demo run install clean
 
 test:
 	@tests/run
@@ -50,7 +51,10 @@ SECONDS = 60
 fuzz: $(LIB)
 	@$(OUTSIDE) --seconds $(SECONDS)
 
-target/bench/%: bench/%.c bench/bench.h bench/frame.h include/gateway.h $(LIB)
+floats: $(LIB)
+	@$(OUTSIDE) --all-floats
+
+target/bench/%: bench/%.c $(wildcard bench/*.h) include/gateway.h $(LIB)
 	@mkdir -p $(@D)
 	$(CC) $(CFLAGS) -O3 -o $@ $< $(LIB) -lpthread
 

@@ -1,44 +1,94 @@
-/* Speed of one operation beside the same work in plain C, in alternating rounds of one run. */
+/* One operation beside the same work in plain C: the answers compared, the time in short alternating rounds, and for callgrind the
+   calls alone. */
 #ifndef BENCH_H
 #define BENCH_H
 #define _POSIX_C_SOURCE 200809L
 #include <stdint.h>
 #include <stdio.h>
+#include <stdlib.h>
 #include <string.h>
 #include <time.h>
 
-/* Keeps a plain C function a call, as ours is. */
+/* Keeps a function a call, as ours is. */
 #define PLAIN __attribute__((noipa)) static
+
+enum { ROUNDS = 600 };
+static const double ROUND = 30e-6; /* seconds */
+
+/* Calls number `from` to `past` of one side; answers the sum of all answers. */
+typedef uint64_t side(size_t from, size_t past);
+
+#define SIDE(name, call, ...)                                                                                                                      \
+    static uint64_t name(size_t from, size_t past)                                                                                                 \
+    {                                                                                                                                              \
+        uint64_t all = 0;                                                                                                                          \
+        for (size_t i = from; i < past; i++) {                                                                                                     \
+            all += call(__VA_ARGS__);                                                                                                              \
+        }                                                                                                                                          \
+        return all;                                                                                                                                \
+    }
+
+/* The two sides of a row: call number i, with the same arguments. */
+#define SIDES(row, ours, plain, ...)                                                                                                               \
+    SIDE(row##_ours, ours, __VA_ARGS__)                                                                                                            \
+    SIDE(row##_plain, plain, __VA_ARGS__)
+
+/* A row of `calls` different calls; what they write is in the array `lent`. */
+#define ROW(name, row, calls, lent) bench_row(name, row##_ours, row##_plain, calls, lent, sizeof lent)
 
 static volatile uint64_t bench_sink;
 
-static inline double bench_seconds(void)
+static inline double bench_round(side *run, size_t calls)
 {
-    struct timespec t;
-    clock_gettime(CLOCK_MONOTONIC, &t);
-    return (double)t.tv_sec + (double)t.tv_nsec * 1e-9;
+    struct timespec a, b;
+    clock_gettime(CLOCK_MONOTONIC, &a);
+    bench_sink += run(0, calls);
+    clock_gettime(CLOCK_MONOTONIC, &b);
+    return (double)(b.tv_sec - a.tv_sec) + (double)(b.tv_nsec - a.tv_nsec) * 1e-9;
 }
 
-/* Each function does the operation `times` times and answers something of every result.
-   The best of 15 rounds counts for each side. Buffers are warm. */
-static inline void bench_row(const char *name, uint64_t (*ours)(size_t), uint64_t (*plain)(size_t), size_t times)
+/* callgrind counts what runs in here, and writes a file for each time. */
+PLAIN void bench_count(side *run, size_t calls)
 {
-    double best_ours = 1e9, best_plain = 1e9;
-    for (int round = 0; round < 15; round++) {
-        double a = bench_seconds();
-        bench_sink += ours(times);
-        double b = bench_seconds();
-        bench_sink += plain(times);
-        double c = bench_seconds();
-        if (b - a < best_ours) {
-            best_ours = b - a;
-        }
-        if (c - b < best_plain) {
-            best_plain = c - b;
+    bench_sink += run(0, calls);
+}
+
+static inline void bench_compare(const char *name, side *ours, side *plain, size_t calls, void *lent, size_t size)
+{
+    uint8_t *left = malloc(size);
+    for (size_t i = 0; i < calls; i++) {
+        memset(lent, 0xA5, size);
+        uint64_t answer = ours(i, i + 1);
+        memcpy(left, lent, size);
+        memset(lent, 0xA5, size);
+        if (answer != plain(i, i + 1) || memcmp(left, lent, size) != 0) {
+            fprintf(stderr, "%s: the two sides differ at call %zu\n", name, i);
+            exit(1);
         }
     }
-    printf("%-44s %10.1f %10.1f %8.2f\n", name, best_ours / (double)times * 1e9, best_plain / (double)times * 1e9,
-           best_plain / best_ours);
+    free(left);
+    memset(lent, 0, size);
+}
+
+static inline void bench_row(const char *name, side *ours, side *plain, size_t calls, void *lent, size_t size)
+{
+    if (getenv("BENCH_COUNT")) {
+        bench_count(ours, calls);
+        bench_count(plain, calls);
+        return;
+    }
+    bench_compare(name, ours, plain, calls, lent, size);
+    size_t times = 1;
+    while (bench_round(ours, times) < ROUND) {
+        times *= 2;
+    }
+    double least_ours = 1, least_plain = 1;
+    for (int i = 0; i < ROUNDS; i++) {
+        double a = bench_round(ours, times), b = bench_round(plain, times);
+        least_ours = a < least_ours ? a : least_ours;
+        least_plain = b < least_plain ? b : least_plain;
+    }
+    printf("%s\t%zu\t%g\t%g\n", name, calls, least_ours / (double)times * 1e9, least_plain / (double)times * 1e9);
 }
 
 #endif

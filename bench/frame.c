@@ -1,4 +1,4 @@
-/* omnilink_frame_read beside the same table algorithm in C, on frames of 5, 21 and 69 bytes. */
+/* Omni-Link frames of 5, 21 and 69 bytes, read and written. */
 #include "bench.h"
 #include "frame.h"
 #include "gateway.h"
@@ -9,41 +9,32 @@ PLAIN uint64_t plain_read(const uint8_t *s, size_t n)
     return refusal ? refusal : (uint64_t)s[2] << 8 | (uint64_t)(s[1] - 1) << 16;
 }
 
-static uint8_t frame[69];
+PLAIN uint64_t plain_write(uint8_t type, const uint8_t *data, size_t n, uint8_t *out, size_t room)
+{
+    return n > 64 ? 3 : put_frame(type, data, n, out, room);
+}
+
+static uint8_t data[64], frame[69], out[69];
 static size_t size;
 
-static uint64_t ours(size_t times)
-{
-    uint64_t sum = 0;
-    for (size_t i = 0; i < times; i++) {
-        sum += omnilink_frame_read(frame, size);
-    }
-    return sum;
-}
-
-static uint64_t plain(size_t times)
-{
-    uint64_t sum = 0;
-    for (size_t i = 0; i < times; i++) {
-        sum += plain_read(frame, size);
-    }
-    return sum;
-}
+SIDES(read, omnilink_frame_read, plain_read, frame, size)
+SIDES(write, omnilink_frame_write, plain_write, 0x16, data, size - 5, out, sizeof out)
 
 int main(void)
 {
-    fill_table();
     static const size_t sizes[] = {5, 21, 69};
+    char name[64];
+    fill_table();
+    for (size_t i = 0; i < sizeof data; i++) {
+        data[i] = (uint8_t)(i * 29 + 3);
+    }
     for (int k = 0; k < 3; k++) {
-        uint8_t data[64];
-        char name[64];
-        for (size_t i = 0; i < sizeof data; i++) {
-            data[i] = (uint8_t)(i * 29 + 3);
-        }
         size = sizes[k];
         omnilink_frame_write(0x16, data, size - 5, frame, sizeof frame);
         snprintf(name, sizeof name, "omnilink_frame_read, %zu bytes", size);
-        bench_row(name, ours, plain, 200000);
+        ROW(name, read, 16, out);
+        snprintf(name, sizeof name, "omnilink_frame_write, %zu bytes", size);
+        ROW(name, write, 16, out);
     }
     return 0;
 }

@@ -1,4 +1,4 @@
-/* Document 01, "Omni-Link frames", in plain C by the usual table: the number of the refusal, or 0. */
+/* Document 01, "Omni-Link frames", in plain C by the usual table. */
 #ifndef FRAME_H
 #define FRAME_H
 #include <stddef.h>
@@ -17,6 +17,9 @@ static inline void fill_table(void)
     }
 }
 
+static inline uint16_t crc_next(uint16_t crc, uint8_t byte) { return (uint16_t)(crc >> 8 ^ table[(crc ^ byte) & 0xFF]); }
+
+/* The number of the refusal, or 0. */
 static inline unsigned frame_refusal(const uint8_t *s, size_t n)
 {
     if (n == 0) return 1;
@@ -28,9 +31,26 @@ static inline unsigned frame_refusal(const uint8_t *s, size_t n)
     if (n > l + 4) return 4;
     uint16_t crc = 0;
     for (size_t i = 1; i < l + 2; i++) {
-        crc = (uint16_t)(crc >> 8 ^ table[(crc ^ s[i]) & 0xFF]);
+        crc = crc_next(crc, s[i]);
     }
     return (s[l + 2] | s[l + 3] << 8) != crc ? 5 : 0;
+}
+
+/* Writes a frame of at most 64 data bytes where there is room. */
+static inline uint64_t put_frame(unsigned type, const uint8_t *data, size_t n, uint8_t *out, size_t room)
+{
+    if (room < n + 5) return 9;
+    out[0] = 0x5A;
+    out[1] = (uint8_t)(n + 1);
+    out[2] = (uint8_t)type;
+    uint16_t crc = crc_next(crc_next(0, out[1]), out[2]);
+    for (size_t i = 0; i < n; i++) {
+        out[i + 3] = data[i];
+        crc = crc_next(crc, data[i]);
+    }
+    out[n + 3] = (uint8_t)crc;
+    out[n + 4] = (uint8_t)(crc >> 8);
+    return (uint64_t)(n + 5) << 8;
 }
 
 #endif

@@ -1,4 +1,4 @@
-/* omnilink_message_read beside the same reading in C: an acknowledge, a command and a zone status of 32 zones. */
+/* Omni-Link messages: read, written, and their items. */
 #include "bench.h"
 #include "frame.h"
 #include "gateway.h"
@@ -26,98 +26,160 @@ static inline int log_listed(const uint8_t *d)
     return d[2] >= 1 && d[2] <= 12 && d[3] >= 1 && d[3] <= 31 && d[4] <= 23 && d[5] <= 59;
 }
 
-PLAIN uint64_t plain_read(const uint8_t *s, size_t size)
+static inline int zones_listed(const uint8_t *d, size_t n)
 {
-    unsigned r = frame_refusal(s, size);
-    if (r) return r;
-    const uint8_t *d = s + 3;
-    size_t n = (size_t)s[1] - 1, items = 0;
-    switch (s[2]) {
+    for (size_t i = 0; i < n; i += 2) {
+        if ((d[i] & 0x03) == 0x03 || (d[i] & 0x0C) == 0x0C || d[i] >= 128) return 0;
+    }
+    return 1;
+}
+
+/* The refusal of a type and its data bytes, or 0 and the count of items. */
+static inline unsigned message_refusal(unsigned type, const uint8_t *d, size_t n, size_t *items)
+{
+    *items = 0;
+    switch (type) {
     case 0x05:
     case 0x06:
     case 0x0D:
     case 0x11:
     case 0x13:
     case 0x21:
-    case 0x22:
-        if (n != 0) return 7;
-        break;
-    case 0x20:
-        if (n != 4) return 7;
-        if (d[0] > 9 || d[1] > 9 || d[2] > 9 || d[3] > 9) return 8;
-        break;
-    case 0x15:
-        if (n != 2) return 7;
-        if (d[0] == 0 || d[0] > d[1]) return 8;
-        break;
+    case 0x22: return n != 0 ? 7 : 0;
+    case 0x20: return n != 4 ? 7 : d[0] > 9 || d[1] > 9 || d[2] > 9 || d[3] > 9 ? 8 : 0;
+    case 0x15: return n != 2 ? 7 : d[0] == 0 || d[0] > d[1] ? 8 : 0;
     case 0x16:
-        if (n % 2 == 1 || n == 0) return 7;
-        for (size_t i = 0; i < n; i += 2) {
-            if ((d[i] & 0x03) == 0x03 || (d[i] & 0x0C) == 0x0C || d[i] >= 128) return 8;
-        }
-        items = n / 2;
-        break;
+        *items = n / 2;
+        return n % 2 == 1 || n == 0 || n > 64 ? 7 : !zones_listed(d, n) ? 8 : 0;
     case 0x23:
-        if (n % 2 == 1) return 7;
-        items = n / 2;
-        break;
+        *items = n / 2;
+        return n % 2 == 1 || n > 64 ? 7 : 0;
     case 0x25:
-        if (n != 5 && n != 17 && n != 33) return 7;
-        if (d[0] != 0) return 8;
-        items = (n - 1) * 4;
-        break;
-    case 0x0E:
-        if (n != 10) return 7;
-        if (!log_listed(d)) return 8;
-        break;
-    case 0x0F:
-        if (n != 4) return 7;
-        if (!command_listed(d)) return 8;
-        break;
-    default:
-        return 6;
+        *items = (n - 1) * 4;
+        return n != 5 && n != 17 && n != 33 ? 7 : d[0] != 0 ? 8 : 0;
+    case 0x0E: return n != 10 ? 7 : !log_listed(d) ? 8 : 0;
+    case 0x0F: return n != 4 ? 7 : !command_listed(d) ? 8 : 0;
+    default: return 6;
     }
-    return (uint64_t)s[2] << 8 | (uint64_t)items << 16;
 }
 
-static uint8_t frame[69];
-static size_t size;
-
-static uint64_t ours(size_t times)
+static inline unsigned read_refusal(const uint8_t *s, size_t size, size_t *items)
 {
-    uint64_t sum = 0;
-    for (size_t i = 0; i < times; i++) {
-        sum += omnilink_message_read(frame, size);
-    }
-    return sum;
+    unsigned refusal = frame_refusal(s, size);
+    return refusal ? refusal : message_refusal(s[2], s + 3, s[1] - 1u, items);
 }
 
-static uint64_t plain(size_t times)
+/* The refusal of item i of a message of a type, or 0. */
+static inline unsigned item_refusal(const uint8_t *s, size_t size, unsigned type, size_t i)
 {
-    uint64_t sum = 0;
-    for (size_t i = 0; i < times; i++) {
-        sum += plain_read(frame, size);
-    }
-    return sum;
+    size_t items;
+    unsigned refusal = read_refusal(s, size, &items);
+    return refusal ? refusal : s[2] != type || i >= items ? 8 : 0;
 }
 
-static void row(const char *name, uint8_t type, const uint8_t *data, size_t n)
+PLAIN uint64_t plain_read(const uint8_t *s, size_t size)
 {
-    size = n + 5;
-    omnilink_message_write(type, data, n, frame, sizeof frame);
-    bench_row(name, ours, plain, 200000);
+    size_t items;
+    unsigned refusal = read_refusal(s, size, &items);
+    return refusal ? refusal : (uint64_t)s[2] << 8 | (uint64_t)items << 16;
+}
+
+PLAIN uint64_t plain_write(uint8_t type, const uint8_t *data, size_t n, uint8_t *out, size_t room)
+{
+    size_t items;
+    unsigned refusal = message_refusal(type, data, n, &items);
+    return refusal ? refusal : put_frame(type, data, n, out, room);
+}
+
+PLAIN uint64_t plain_zone(const uint8_t *s, size_t size, size_t i)
+{
+    unsigned refusal = item_refusal(s, size, 0x16, i);
+    if (refusal) return refusal;
+    unsigned b = s[i * 2 + 3];
+    return (b & 3) << 8 | (b >> 2 & 3) << 16 | (b >> 4 & 3) << 24 | (uint64_t)(b >> 6 & 1) << 32 | (uint64_t)s[i * 2 + 4] << 40;
+}
+
+PLAIN uint64_t plain_event(const uint8_t *s, size_t size, size_t i)
+{
+    unsigned refusal = item_refusal(s, size, 0x23, i);
+    return refusal ? refusal : (unsigned)s[i * 2 + 3] << 16 | s[i * 2 + 4] << 8;
+}
+
+PLAIN uint64_t plain_text(const uint8_t *s, size_t size, size_t i)
+{
+    unsigned refusal = item_refusal(s, size, 0x25, i);
+    if (refusal) return refusal;
+    unsigned b = s[i / 4 + 4] >> (6 - i % 4 * 2);
+    return (b & 1) << 8 | (b >> 1 & 1) << 16;
+}
+
+PLAIN uint64_t plain_command(const uint8_t *s, size_t size)
+{
+    size_t items;
+    unsigned refusal = read_refusal(s, size, &items);
+    if (refusal) return refusal;
+    if (s[2] != 0x0F) return 6;
+    unsigned command = s[3], p1 = s[4], unit = 0, p2 = (unsigned)s[5] << 8 | s[6];
+    if (command <= 1 && p1 != 0) {
+        unit = p1 < 100 ? 1 : p1 < 200 ? 2 : 3;
+        p1 -= (unit - 1) * 100;
+    }
+    return command << 8 | unit << 16 | p1 << 24 | (uint64_t)p2 << 32;
+}
+
+PLAIN uint64_t plain_log(const uint8_t *s, size_t size, size_t field)
+{
+    size_t items;
+    unsigned refusal = read_refusal(s, size, &items);
+    if (refusal) return refusal;
+    if (s[2] != 0x0E) return 6;
+    if (field > 8) return 8;
+    return field == 8 ? (unsigned)s[11] << 16 | s[12] << 8 : (unsigned)s[field + 3] << 8;
+}
+
+static uint8_t kind, data[64], frame[69], out[69];
+static size_t count;
+
+SIDES(read, omnilink_message_read, plain_read, frame, count + 5)
+SIDES(write, omnilink_message_write, plain_write, kind, data, count, out, sizeof out)
+SIDES(zone, omnilink_zone, plain_zone, frame, count + 5, i % 32)
+SIDES(event, omnilink_event, plain_event, frame, count + 5, i % 16)
+SIDES(text, omnilink_text_message, plain_text, frame, count + 5, i % 64)
+SIDES(command, omnilink_command, plain_command, frame, count + 5)
+SIDES(log, omnilink_log_entry, plain_log, frame, count + 5, i % 9)
+
+/* The message that the next rows work on. */
+static void message(uint8_t type, size_t n, const char *bytes)
+{
+    kind = type;
+    count = n;
+    memcpy(data, bytes, n);
+    omnilink_message_write(kind, data, count, frame, sizeof frame);
 }
 
 int main(void)
 {
+    char mixed[64];
     fill_table();
-    static const uint8_t command[4] = {1, 130, 0x00, 0x2A};
-    uint8_t zones[64];
-    for (size_t i = 0; i < sizeof zones; i++) {
-        zones[i] = (uint8_t)(i % 2 ? 0x80 + i : i * 8 & 0x70);
+    message(0x05, 0, "");
+    ROW("omnilink_message_read, acknowledge", read, 16, out);
+    ROW("omnilink_message_write, acknowledge", write, 16, out);
+    message(0x0F, 4, "\x01\x82\x00\x2A");
+    ROW("omnilink_message_read, command", read, 16, out);
+    ROW("omnilink_message_write, command", write, 16, out);
+    ROW("omnilink_command", command, 16, out);
+    message(0x0E, 10, "\x07\x01\x0C\x1F\x17\x3B\x80\x05\x01\x02");
+    ROW("omnilink_log_entry", log, 18, out);
+    for (int i = 0; i < 64; i++) {
+        mixed[i] = (char)(i % 2 ? 0x80 + i : i * 8 & 0x70);
     }
-    row("omnilink_message_read, acknowledge", 0x05, NULL, 0);
-    row("omnilink_message_read, command", 0x0F, command, sizeof command);
-    row("omnilink_message_read, 32 zones", 0x16, zones, sizeof zones);
+    message(0x16, 64, mixed);
+    ROW("omnilink_message_read, 32 zones", read, 16, out);
+    ROW("omnilink_message_write, 32 zones", write, 16, out);
+    ROW("omnilink_zone, of 32", zone, 32, out);
+    message(0x23, 32, mixed);
+    ROW("omnilink_event, of 16", event, 16, out);
+    message(0x25, 17, mixed);
+    ROW("omnilink_text_message, of 64", text, 64, out);
     return 0;
 }

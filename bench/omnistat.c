@@ -1,181 +1,94 @@
-/* Reading Omnistat2 messages at both ends. */
+/* Omnistat2 messages, read and written at both ends. */
 #include "bench.h"
 #include "gateway.h"
+#include "omnistat.h"
 
-enum { MESSAGES = 64, MOST = 18 };
-
-static uint8_t to_thermostat[MESSAGES][MOST], to_host[MESSAGES][MOST];
-static size_t thermostat_len[MESSAGES], host_len[MESSAGES];
-
-static int run_is_allowed(unsigned start, unsigned count)
-{
-    unsigned past = start + count;
-    return past <= 256 && (past <= 172 || start > 181);
-}
-
-/* The frame's checks: 0 or the refusal. */
-static inline unsigned frame(int right, const uint8_t *bytes, size_t len)
-{
-    if (!right) {
-        return 2;
-    }
-    if (len == 1) {
-        return 1;
-    }
-    size_t n = bytes[1] >> 4;
-    if (len < n + 3) {
-        return 1;
-    }
-    if (len > n + 3) {
-        return 4;
-    }
-    uint8_t sum = 0;
-    for (size_t i = 0; i < n + 2; i++) {
-        sum = (uint8_t)(sum + bytes[i]);
-    }
-    return sum != bytes[n + 2] ? 5 : 0;
-}
-
-static inline uint64_t pack(unsigned type, unsigned address, unsigned start, unsigned count)
+static inline uint64_t pack(unsigned type, unsigned address, unsigned start, size_t count)
 {
     return (uint64_t)type << 8 | (uint64_t)address << 16 | (uint64_t)start << 24 | (uint64_t)count << 32;
 }
 
 PLAIN uint64_t plain_at_thermostat(const uint8_t *bytes, size_t len)
 {
-    if (len == 0) {
-        return 1;
-    }
-    unsigned first = bytes[0];
-    unsigned refusal = frame(first < 0x80 || first == 0xFA, bytes, len);
-    if (refusal) {
-        return refusal;
-    }
-    unsigned n = bytes[1] >> 4, type = bytes[1] & 15;
-    switch (type) {
-    case 0:
-        if (n != 2) {
-            return 7;
-        }
-        if (bytes[3] < 1 || bytes[3] > 14 || !run_is_allowed(bytes[2], bytes[3])) {
-            return 8;
-        }
-        return pack(0, first, bytes[2], bytes[3]);
-    case 1:
-        if (n < 2) {
-            return 7;
-        }
-        if (!run_is_allowed(bytes[2], n - 1)) {
-            return 8;
-        }
-        return pack(1, first, bytes[2], n - 1);
-    case 2:
-    case 3:
-    case 4:
-        return n != 0 ? 7 : pack(type, first, 0, 0);
-    default:
-        return 6;
-    }
+    unsigned refusal = read_refusal(bytes, len);
+    if (refusal) return refusal;
+    unsigned type = bytes[1] & 15;
+    if (type > 1) return pack(type, bytes[0], 0, 0);
+    return pack(type, bytes[0], bytes[2], type == 0 ? bytes[3] : (bytes[1] >> 4) - 1u);
 }
 
 PLAIN uint64_t plain_at_host(const uint8_t *bytes, size_t len)
 {
-    if (len == 0) {
-        return 1;
-    }
-    unsigned first = bytes[0];
-    unsigned refusal = frame(first > 0x80, bytes, len);
-    if (refusal) {
-        return refusal;
-    }
-    unsigned n = bytes[1] >> 4, type = bytes[1] & 15, number = first - 0x80;
-    switch (type) {
-    case 0:
-    case 1:
-        return n != 0 ? 7 : pack(type, number, 0, 0);
-    case 2:
-        if (n < 2) {
-            return 7;
-        }
-        if (!run_is_allowed(bytes[2], n - 1)) {
-            return 8;
-        }
-        return pack(2, number, bytes[2], n - 1);
-    case 3:
-    case 4:
-        return n != 6 ? 7 : pack(type, number, 0, n);
-    case 5:
-        return n != 10 ? 7 : pack(type, number, 0, n);
-    default:
-        return 6;
-    }
+    if (len == 0) return 1;
+    unsigned refusal = summed_refusal(bytes[0] > 0x80, bytes, len);
+    if (refusal) return refusal;
+    unsigned type = bytes[1] & 15, n = bytes[1] >> 4, number = bytes[0] - 0x80u;
+    refusal = reply_refusal(type, bytes + 2, n);
+    if (refusal) return refusal;
+    return type == 2 ? pack(2, number, bytes[2], n - 1) : pack(type, number, 0, n);
 }
 
-static uint64_t ours_thermostat(size_t times)
+PLAIN uint64_t plain_to_thermostat(uint8_t address, uint8_t type, const uint8_t *data, size_t n, uint8_t *out, size_t room)
 {
-    uint64_t all = 0;
-    for (size_t i = 0; i < times; i++) {
-        all += omnistat_read_at_thermostat(to_thermostat[i % MESSAGES], thermostat_len[i % MESSAGES]);
-    }
-    return all;
+    unsigned refusal = request_refusal(type, data, n);
+    if (refusal) return refusal;
+    if (!is_request(address)) return 8;
+    if (room < n + 3) return 9;
+    return enclose(out, address, type, n, copy_summed(out + 2, data, n));
 }
 
-static uint64_t c_thermostat(size_t times)
+PLAIN uint64_t plain_to_host(uint8_t number, uint8_t type, const uint8_t *data, size_t n, uint8_t *out, size_t room)
 {
-    uint64_t all = 0;
-    for (size_t i = 0; i < times; i++) {
-        all += plain_at_thermostat(to_thermostat[i % MESSAGES], thermostat_len[i % MESSAGES]);
-    }
-    return all;
+    unsigned refusal = reply_refusal(type, data, n);
+    if (refusal) return refusal;
+    if (number < 1 || number > 127) return 8;
+    if (room < n + 3) return 9;
+    return enclose(out, number + 0x80u, type, n, copy_summed(out + 2, data, n));
 }
 
-static uint64_t ours_host(size_t times)
-{
-    uint64_t all = 0;
-    for (size_t i = 0; i < times; i++) {
-        all += omnistat_read_at_host(to_host[i % MESSAGES], host_len[i % MESSAGES]);
-    }
-    return all;
-}
+enum { MESSAGES = 64 };
 
-static uint64_t c_host(size_t times)
-{
-    uint64_t all = 0;
-    for (size_t i = 0; i < times; i++) {
-        all += plain_at_host(to_host[i % MESSAGES], host_len[i % MESSAGES]);
-    }
-    return all;
-}
+static struct message {
+    uint8_t address, type, data[15], bytes[18];
+    size_t count, len;
+} requests[MESSAGES], replies[MESSAGES];
+static uint8_t out[18];
+
+#define READ(list) list[i % MESSAGES].bytes, list[i % MESSAGES].len
+#define WRITE(list) list[i % MESSAGES].address, list[i % MESSAGES].type, list[i % MESSAGES].data, list[i % MESSAGES].count, out, sizeof out
+
+SIDES(at_thermostat, omnistat_read_at_thermostat, plain_at_thermostat, READ(requests))
+SIDES(at_host, omnistat_read_at_host, plain_at_host, READ(replies))
+SIDES(to_thermostat, omnistat_write_to_thermostat, plain_to_thermostat, WRITE(requests))
+SIDES(to_host, omnistat_write_to_host, plain_to_host, WRITE(replies))
 
 /* A mix of messages: groups, polls or acknowledges, and runs of 1 to 14 values. */
 static void prepare(void)
 {
     for (unsigned i = 0; i < MESSAGES; i++) {
-        uint8_t data[15] = {(uint8_t)(i * 2)};
-        unsigned run = i % 14 + 1;
+        struct message *q = &requests[i], *r = &replies[i];
+        unsigned run = i % 14 + 1, group = i / 4 % 3;
+        q->address = r->address = (uint8_t)(i + 1);
+        q->data[0] = r->data[0] = (uint8_t)(i * 2);
         for (unsigned k = 1; k < 15; k++) {
-            data[k] = (uint8_t)(i * 5 + k);
+            q->data[k] = r->data[k] = (uint8_t)(i * 5 + k);
         }
-        uint8_t poll[2] = {(uint8_t)(i * 2), (uint8_t)run};
-        uint64_t w = i % 4 == 0   ? omnistat_write_to_thermostat(i + 1, 2 + i / 4 % 3, data, 0, to_thermostat[i], MOST)
-                     : i % 4 == 1 ? omnistat_write_to_thermostat(i + 1, 0, poll, 2, to_thermostat[i], MOST)
-                                  : omnistat_write_to_thermostat(i + 1, 1, data, run + 1, to_thermostat[i], MOST);
-        thermostat_len[i] = w >> 8;
-        w = i % 4 == 0   ? omnistat_write_to_host(i + 1, i / 4 % 2, data, 0, to_host[i], MOST)
-            : i % 4 == 1 ? omnistat_write_to_host(i + 1, 3 + i / 4 % 3, data, i / 4 % 3 == 2 ? 10 : 6, to_host[i], MOST)
-                         : omnistat_write_to_host(i + 1, 2, data, run + 1, to_host[i], MOST);
-        host_len[i] = w >> 8;
-        if (omnistat_read_at_thermostat(to_thermostat[i], thermostat_len[i]) != plain_at_thermostat(to_thermostat[i], thermostat_len[i]) ||
-            omnistat_read_at_host(to_host[i], host_len[i]) != plain_at_host(to_host[i], host_len[i])) {
-            printf("omnistat: the two sides differ at message %u\n", i);
-        }
+        q->type = i % 4 == 0 ? 2 + group : i % 4 == 1 ? 0 : 1;
+        q->count = i % 4 == 0 ? 0 : i % 4 == 1 ? 2 : run + 1;
+        if (q->type == 0) q->data[1] = (uint8_t)run;
+        r->type = i % 4 == 0 ? i / 4 % 2 : i % 4 == 1 ? 3 + group : 2;
+        r->count = i % 4 == 0 ? 0 : i % 4 == 1 ? (group == 2 ? 10 : 6) : run + 1;
+        q->len = omnistat_write_to_thermostat(q->address, q->type, q->data, q->count, q->bytes, sizeof q->bytes) >> 8;
+        r->len = omnistat_write_to_host(r->address, r->type, r->data, r->count, r->bytes, sizeof r->bytes) >> 8;
     }
 }
 
 int main(void)
 {
     prepare();
-    bench_row("Omnistat2 message, read at the thermostat", ours_thermostat, c_thermostat, 1000000);
-    bench_row("Omnistat2 message, read at the host", ours_host, c_host, 1000000);
+    ROW("omnistat_read_at_thermostat", at_thermostat, MESSAGES, out);
+    ROW("omnistat_read_at_host", at_host, MESSAGES, out);
+    ROW("omnistat_write_to_thermostat", to_thermostat, MESSAGES, out);
+    ROW("omnistat_write_to_host", to_host, MESSAGES, out);
     return 0;
 }

@@ -1,11 +1,12 @@
 // The frame of an Omnistat2 message: address byte, length and type, data bytes, sum.
 ghost use mathlib.Core.Path.{_≡_};
-ghost use Prim.Native.Nat.{_+_, _/_, _<_, _≤_};
+ghost use mathlib.Core.List.{_∷_};
+ghost use Prim.Native.Nat.{_+_, _*_, _/_, _%_, _<_, _≤_};
 ghost use lib.ListN.{length, getD, take, drop};
 ghost use lib.Dec.{eqb};
 ghost use lib.Seq.{paste};
 ghost use Rattle.answer.specs.Answer.{writtenOf, accepted, onAccepted, inRoom, outAfter};
-ghost use Rattle.omnistat.specs.Frame.{directed, sumOf, frame, framed, bytesOf};
+ghost use Rattle.omnistat.specs.Frame.{directed, sumOf, frame, summed};
 ghost use Rattle.omnistat.specs.Parts.{framedIn};
 use answer::Refusal;
 use answer::Written;
@@ -121,35 +122,68 @@ pub(crate) fn part(bytes: &[u8], from: usize, count: usize) -> &[u8]
     &bytes[from..past]
 }
 
-// Copies all of `from` into `out`, at a place.
-pub(crate) fn copy(out: &mut [u8], at: usize, from: &[u8])
+// Copies all of `from` into `out`, at a place, and answers its sum.
+pub(crate) fn put(out: &mut [u8], at: usize, from: &[u8]) -> u8
     requires { ⌜ at + length (now from) ≤ length (now out) ⌝ }
+    ensures { λ r. ⌜ r ≡ sumOf (now (from .entry)) ⌝ }
     ensures { λ r. ⌜ now (out .exit) ≡ paste (now (out .entry)) at (now (from .entry)) (length (now (from .entry))) ⌝ }
 {
+    let mut total: u32 = 0;
     let mut i = 0;
     while i < from.len() {
         out[at + i] = from[i];
+        total = (total + from[i] as u32) % 256;
         i += 1;
     }
+    total as u8
 }
 
-// Writes a frame, with its sum, where there is room.
-pub(crate) fn write(first: u8, kind: u8, payload: &[u8], out: &mut [u8]) -> Written
-    requires { ⌜ kind < 16 ⌝ }
-    requires { ⌜ length (now payload) ≤ 15 ⌝ }
-    ensures { λ r. ⌜ writtenOf r ≡ onAccepted length (inRoom (length (now (out .entry))) (accepted (bytesOf (framed first kind (now (payload .entry)))))) ⌝ }
-    ensures { λ r. ⌜ now (out .exit) ≡ outAfter (inRoom (length (now (out .entry))) (accepted (bytesOf (framed first kind (now (payload .entry)))))) (now (out .entry)) ⌝ }
+// The sum of two bytes, modulo 256.
+fn plus(a: u8, b: u8) -> u8
+    ensures { λ r. ⌜ r ≡ (a + b) % 256 ⌝ }
 {
-    let last = payload.len() + 2;
-    let written = last + 1;
-    if out.len() < written {
+    ((a as u32 + b as u32) % 256) as u8
+}
+
+// The second byte of a message: how many data bytes follow it, and its type.
+pub(crate) fn length_and_type(count: usize, kind: u8) -> u8
+    requires { ⌜ (kind < 16) × (count ≤ 15) ⌝ }
+    ensures { λ r. ⌜ r ≡ count * 16 + kind ⌝ }
+{
+    (count as u8) * 16 + kind
+}
+
+// Writes a message of these first two bytes and data bytes, with its sum, where there is room.
+pub(crate) fn write(first: u8, second: u8, payload: &[u8], out: &mut [u8]) -> Written
+    requires { ⌜ length (now payload) ≤ 255 ⌝ }
+    ensures { λ r. ⌜ writtenOf r ≡ onAccepted length (inRoom (length (now (out .entry))) (accepted (summed (first ∷ second ∷ now (payload .entry))))) ⌝ }
+    ensures { λ r. ⌜ now (out .exit) ≡ outAfter (inRoom (length (now (out .entry))) (accepted (summed (first ∷ second ∷ now (payload .entry))))) (now (out .entry)) ⌝ }
+{
+    if out.len() < payload.len() + 3 {
         return Written::Refused(Refusal::Room);
     }
-    let n = payload.len() as u8;
+    let last = payload.len() + 2;
     out[0] = first;
-    out[1] = n * 16 + kind;
-    copy(out, 2, payload);
-    let s = sum(&out[..last]);
-    out[last] = s;
-    Written::Count(written as u32)
+    out[1] = second;
+    let sum = put(out, 2, payload);
+    out[last] = plus(plus(first, second), sum);
+    Written::Count((last + 1) as u32)
+}
+
+// The same where the data bytes are a start register and values.
+pub(crate) fn write_run(first: u8, second: u8, start: u8, values: &[u8], out: &mut [u8]) -> Written
+    requires { ⌜ length (now values) ≤ 254 ⌝ }
+    ensures { λ r. ⌜ writtenOf r ≡ onAccepted length (inRoom (length (now (out .entry))) (accepted (summed (first ∷ second ∷ start ∷ now (values .entry))))) ⌝ }
+    ensures { λ r. ⌜ now (out .exit) ≡ outAfter (inRoom (length (now (out .entry))) (accepted (summed (first ∷ second ∷ start ∷ now (values .entry))))) (now (out .entry)) ⌝ }
+{
+    if out.len() < values.len() + 4 {
+        return Written::Refused(Refusal::Room);
+    }
+    let last = values.len() + 3;
+    out[0] = first;
+    out[1] = second;
+    out[2] = start;
+    let sum = put(out, 3, values);
+    out[last] = plus(plus(plus(first, second), start), sum);
+    Written::Count((last + 1) as u32)
 }

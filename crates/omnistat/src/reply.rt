@@ -1,12 +1,15 @@
 // What a thermostat replies: acknowledge, negative, data, and the three groups. Read at the host, written to the host.
 ghost use mathlib.Core.Path.{_≡_};
+ghost use mathlib.Core.List.{[]};
+ghost use Prim.Native.Nat.{_≤_};
 ghost use lib.ListN.{length, take, drop};
 ghost use Rattle.answer.specs.Answer.{onAccepted, inRoom, outAfter, writtenOf};
+ghost use Rattle.answer.specs.Packed.{packed};
 ghost use Rattle.omnistat.specs.Message.{asRun, ofLength, asMessage, acknowledge, negative, dataFrom, group as groupValues};
 ghost use Rattle.omnistat.specs.Omnistat.{addressed, read, write, writeBytes};
 ghost use Rattle.omnistat.specs.Frame.{directed, firstOf};
 ghost use Rattle.omnistat.specs.Group.{replyLength};
-ghost use Rattle.omnistat.specs.Answer.{replyIn};
+ghost use Rattle.omnistat.specs.Answer.{replyIn, fields};
 ghost use Rattle.omnistat.specs.Parts.{Says, checkOf, passed};
 use crate::frame::End;
 use crate::frame::Framed;
@@ -14,7 +17,6 @@ use crate::frame::REPLY;
 use crate::group::Group;
 use crate::group::Named;
 use crate::message::Check;
-use crate::message::MOST_VALUES;
 use crate::message::Run;
 use answer::Refusal;
 use answer::Written;
@@ -140,24 +142,63 @@ pub fn group_values(bytes: &[u8], count: u8) -> &[u8]
     crate::frame::part(bytes, GROUP_VALUES, count as usize)
 }
 
+// What is packed of a type and its data bytes.
+pub(crate) fn pack(number: u8, kind: u8, payload: &[u8]) -> u64
+    ensures { λ n. ⌜ n ≡ packed (onAccepted (fields End.Host) (onAccepted (addressed number) (asMessage End.Host kind (now (payload .entry))))) ⌝ }
+{
+    if kind == ACKNOWLEDGE {
+        return crate::message::pack_fixed(ACKNOWLEDGE, number, 0, payload);
+    }
+    if kind == NEGATIVE {
+        return crate::message::pack_fixed(NEGATIVE, number, 0, payload);
+    }
+    if kind == DATA {
+        return crate::message::pack_run(DATA, number, payload);
+    }
+    match crate::group::replied(kind) {
+        Named::Of(group) => crate::message::pack_fixed(
+            kind,
+            number,
+            crate::group::reply_length(group),
+            payload,
+        ),
+        Named::Unknown => answer::pack_refusal(Refusal::Unknown),
+    }
+}
+
+// Reads a message at the host, for C: type, number, start and count of values. A number in place of a typed answer stays out of memory.
+pub fn read_packed(bytes: &[u8]) -> u64
+    ensures { λ n. ⌜ n ≡ packed (onAccepted (fields End.Host) (read End.Host (now (bytes .entry)))) ⌝ }
+{
+    match crate::frame::read(End::Host, bytes) {
+        Framed::Refused(r) => answer::pack_refusal(r),
+        Framed::Whole { first, kind, count } => pack(
+            first - REPLY,
+            kind,
+            crate::frame::part(bytes, 2, count as usize),
+        ),
+    }
+}
+
 // Whether a type and its data bytes are a reply.
 pub(crate) fn check(kind: u8, payload: &[u8]) -> Check
     ensures { λ r. ⌜ checkOf r ≡ onAccepted passed (asMessage End.Host kind (now (payload .entry))) ⌝ }
 {
-    match as_reply(0, kind, payload) {
-        Reply::Refused(r) => Check::Refused(r),
-        Reply::Acknowledge { number: _ } => Check::Passed,
-        Reply::Negative { number: _ } => Check::Passed,
-        Reply::Data {
-            number: _,
-            start: _,
-            count: _,
-        } => Check::Passed,
-        Reply::Group {
-            number: _,
-            group: _,
-            count: _,
-        } => Check::Passed,
+    if kind == ACKNOWLEDGE {
+        return crate::message::check_length(0, payload);
+    }
+    if kind == NEGATIVE {
+        return crate::message::check_length(0, payload);
+    }
+    if kind == DATA {
+        return crate::message::check_run_in(payload);
+    }
+    match crate::group::replied(kind) {
+        Named::Of(group) => crate::message::check_length(
+            crate::group::reply_length(group) as usize,
+            payload,
+        ),
+        Named::Unknown => Check::Refused(Refusal::Unknown),
     }
 }
 
@@ -182,9 +223,23 @@ pub fn write(number: u8, kind: u8, payload: &[u8], out: &mut [u8]) -> Written
             if !is_number(number) {
                 return Written::Refused(Refusal::Field);
             }
-            crate::frame::write(number + REPLY, kind, payload, out)
+            let second = crate::frame::length_and_type(payload.len(), kind);
+            crate::frame::write(number + REPLY, second, payload, out)
         }
     }
+}
+
+// Writes a reply of a type that has no data bytes.
+fn write_empty(number: u8, kind: u8, out: &mut [u8]) -> Written
+    requires { ⌜ kind ≤ 1 ⌝ }
+    ensures { λ r. ⌜ writtenOf r ≡ onAccepted length (inRoom (length (now (out .entry))) (writeBytes End.Host number kind [])) ⌝ }
+    ensures { λ r. ⌜ now (out .exit) ≡ outAfter (inRoom (length (now (out .entry))) (writeBytes End.Host number kind [])) (now (out .entry)) ⌝ }
+{
+    if !is_number(number) {
+        return Written::Refused(Refusal::Field);
+    }
+    let none = [0u8; 1];
+    crate::frame::write(number + REPLY, kind, &none[..0], out)
 }
 
 // Writes an acknowledge.
@@ -192,8 +247,7 @@ pub fn write_acknowledge(number: u8, out: &mut [u8]) -> Written
     ensures { λ r. ⌜ writtenOf r ≡ onAccepted length (inRoom (length (now (out .entry))) (write End.Host number acknowledge)) ⌝ }
     ensures { λ r. ⌜ now (out .exit) ≡ outAfter (inRoom (length (now (out .entry))) (write End.Host number acknowledge)) (now (out .entry)) ⌝ }
 {
-    let none = [0u8; 1];
-    write(number, ACKNOWLEDGE, &none[..0], out)
+    write_empty(number, ACKNOWLEDGE, out)
 }
 
 // Writes a negative.
@@ -201,8 +255,7 @@ pub fn write_negative(number: u8, out: &mut [u8]) -> Written
     ensures { λ r. ⌜ writtenOf r ≡ onAccepted length (inRoom (length (now (out .entry))) (write End.Host number negative)) ⌝ }
     ensures { λ r. ⌜ now (out .exit) ≡ outAfter (inRoom (length (now (out .entry))) (write End.Host number negative)) (now (out .entry)) ⌝ }
 {
-    let none = [0u8; 1];
-    write(number, NEGATIVE, &none[..0], out)
+    write_empty(number, NEGATIVE, out)
 }
 
 // Writes data: the contents of registers from a start, lent as values.
@@ -210,12 +263,16 @@ pub fn write_data(number: u8, start: u8, values: &[u8], out: &mut [u8]) -> Writt
     ensures { λ r. ⌜ writtenOf r ≡ onAccepted length (inRoom (length (now (out .entry))) (write End.Host number (dataFrom start (now (values .entry))))) ⌝ }
     ensures { λ r. ⌜ now (out .exit) ≡ outAfter (inRoom (length (now (out .entry))) (write End.Host number (dataFrom start (now (values .entry))))) (now (out .entry)) ⌝ }
 {
-    if MOST_VALUES < values.len() {
-        return Written::Refused(Refusal::TypeLength);
+    match crate::message::check_run(start, values.len()) {
+        Check::Refused(r) => Written::Refused(r),
+        Check::Passed => {
+            if !is_number(number) {
+                return Written::Refused(Refusal::Field);
+            }
+            let second = crate::frame::length_and_type(values.len() + 1, DATA);
+            crate::frame::write_run(number + REPLY, second, start, values, out)
+        }
     }
-    let payload = crate::message::run_payload(start, values);
-    let n = values.len() + 1;
-    write(number, DATA, &payload[..n], out)
 }
 
 // Writes a group, with the lent values.

@@ -2,16 +2,16 @@
 ghost use mathlib.Core.Path.{_≡_};
 ghost use lib.ListN.{length, take, drop};
 ghost use Rattle.answer.specs.Answer.{onAccepted, inRoom, outAfter, writtenOf};
+ghost use Rattle.answer.specs.Packed.{packed};
 ghost use Rattle.omnistat.specs.Message.{asPoll, asRun, ofLength, asMessage, poll, setFrom, pollGroup};
 ghost use Rattle.omnistat.specs.Omnistat.{addressed, read, write, writeBytes};
-ghost use Rattle.omnistat.specs.Answer.{requestIn};
+ghost use Rattle.omnistat.specs.Answer.{requestIn, fields};
 ghost use Rattle.omnistat.specs.Parts.{Says, checkOf, passed};
 use crate::frame::End;
 use crate::frame::Framed;
 use crate::group::Group;
 use crate::group::Named;
 use crate::message::Check;
-use crate::message::MOST_VALUES;
 use crate::message::Run;
 use answer::Refusal;
 use answer::Written;
@@ -32,28 +32,38 @@ pub enum Request {
     PollGroup { first: u8, group: Group },
 }
 
-// The data bytes of a poll: start and count.
-pub(crate) fn as_poll(first: u8, payload: &[u8]) -> Request
-    ensures { λ r. ⌜ Says requestIn (now (payload .entry)) r (onAccepted (addressed first) (asPoll (now (payload .entry)))) ⌝ }
+// Whether data bytes are those of a poll: start and count.
+pub(crate) fn check_poll(payload: &[u8]) -> Check
+    ensures { λ r. ⌜ checkOf r ≡ onAccepted passed (asPoll (now (payload .entry))) ⌝ }
 {
     if payload.len() != 2 {
-        return Request::Refused(Refusal::TypeLength);
+        return Check::Refused(Refusal::TypeLength);
     }
     let start = payload[0];
     let count = payload[1];
     if count < 1 {
-        return Request::Refused(Refusal::Field);
+        return Check::Refused(Refusal::Field);
     }
     if MOST_POLLED < count {
-        return Request::Refused(Refusal::Field);
+        return Check::Refused(Refusal::Field);
     }
     if !crate::message::is_run(start, count) {
-        return Request::Refused(Refusal::Field);
+        return Check::Refused(Refusal::Field);
     }
-    Request::Poll {
-        first,
-        start,
-        count,
+    Check::Passed
+}
+
+// The data bytes of a poll.
+pub(crate) fn as_poll(first: u8, payload: &[u8]) -> Request
+    ensures { λ r. ⌜ Says requestIn (now (payload .entry)) r (onAccepted (addressed first) (asPoll (now (payload .entry)))) ⌝ }
+{
+    match check_poll(payload) {
+        Check::Refused(r) => Request::Refused(r),
+        Check::Passed => Request::Poll {
+            first,
+            start: payload[0],
+            count: payload[1],
+        },
     }
 }
 
@@ -118,23 +128,59 @@ pub fn values(bytes: &[u8], count: u8) -> &[u8]
     crate::frame::part(bytes, 3, count as usize)
 }
 
+// What is packed of a poll.
+pub(crate) fn pack_poll(first: u8, payload: &[u8]) -> u64
+    ensures { λ n. ⌜ n ≡ packed (onAccepted (fields End.Thermostat) (onAccepted (addressed first) (asPoll (now (payload .entry))))) ⌝ }
+{
+    match check_poll(payload) {
+        Check::Refused(r) => answer::pack_refusal(r),
+        Check::Passed => answer::pack_4_bytes(POLL, first, payload[0], payload[1]),
+    }
+}
+
+// What is packed of a type and its data bytes.
+pub(crate) fn pack(first: u8, kind: u8, payload: &[u8]) -> u64
+    ensures { λ n. ⌜ n ≡ packed (onAccepted (fields End.Thermostat) (onAccepted (addressed first) (asMessage End.Thermostat kind (now (payload .entry))))) ⌝ }
+{
+    if kind == POLL {
+        return pack_poll(first, payload);
+    }
+    if kind == SET {
+        return crate::message::pack_run(SET, first, payload);
+    }
+    match crate::group::polled(kind) {
+        Named::Of(_) => crate::message::pack_fixed(kind, first, 0, payload),
+        Named::Unknown => answer::pack_refusal(Refusal::Unknown),
+    }
+}
+
+// Reads a message at the thermostat, for C: type, first byte, start and count. A number in place of a typed answer stays out of memory.
+pub fn read_packed(bytes: &[u8]) -> u64
+    ensures { λ n. ⌜ n ≡ packed (onAccepted (fields End.Thermostat) (read End.Thermostat (now (bytes .entry)))) ⌝ }
+{
+    match crate::frame::read(End::Thermostat, bytes) {
+        Framed::Refused(r) => answer::pack_refusal(r),
+        Framed::Whole { first, kind, count } => pack(
+            first,
+            kind,
+            crate::frame::part(bytes, 2, count as usize),
+        ),
+    }
+}
+
 // Whether a type and its data bytes are a message to a thermostat.
 pub(crate) fn check(kind: u8, payload: &[u8]) -> Check
     ensures { λ r. ⌜ checkOf r ≡ onAccepted passed (asMessage End.Thermostat kind (now (payload .entry))) ⌝ }
 {
-    match as_request(0, kind, payload) {
-        Request::Refused(r) => Check::Refused(r),
-        Request::Poll {
-            first: _,
-            start: _,
-            count: _,
-        } => Check::Passed,
-        Request::Set {
-            first: _,
-            start: _,
-            count: _,
-        } => Check::Passed,
-        Request::PollGroup { first: _, group: _ } => Check::Passed,
+    if kind == POLL {
+        return check_poll(payload);
+    }
+    if kind == SET {
+        return crate::message::check_run_in(payload);
+    }
+    match crate::group::polled(kind) {
+        Named::Of(_) => crate::message::check_length(0, payload),
+        Named::Unknown => Check::Refused(Refusal::Unknown),
     }
 }
 
@@ -149,7 +195,8 @@ pub fn write(address: u8, kind: u8, payload: &[u8], out: &mut [u8]) -> Written
             if !crate::frame::is_to_thermostat(address) {
                 return Written::Refused(Refusal::Field);
             }
-            crate::frame::write(address, kind, payload, out)
+            let second = crate::frame::length_and_type(payload.len(), kind);
+            crate::frame::write(address, second, payload, out)
         }
     }
 }
@@ -168,12 +215,16 @@ pub fn write_set(address: u8, start: u8, values: &[u8], out: &mut [u8]) -> Writt
     ensures { λ r. ⌜ writtenOf r ≡ onAccepted length (inRoom (length (now (out .entry))) (write End.Thermostat address (setFrom start (now (values .entry))))) ⌝ }
     ensures { λ r. ⌜ now (out .exit) ≡ outAfter (inRoom (length (now (out .entry))) (write End.Thermostat address (setFrom start (now (values .entry))))) (now (out .entry)) ⌝ }
 {
-    if MOST_VALUES < values.len() {
-        return Written::Refused(Refusal::TypeLength);
+    match crate::message::check_run(start, values.len()) {
+        Check::Refused(r) => Written::Refused(r),
+        Check::Passed => {
+            if !crate::frame::is_to_thermostat(address) {
+                return Written::Refused(Refusal::Field);
+            }
+            let second = crate::frame::length_and_type(values.len() + 1, SET);
+            crate::frame::write_run(address, second, start, values, out)
+        }
     }
-    let payload = crate::message::run_payload(start, values);
-    let n = values.len() + 1;
-    write(address, SET, &payload[..n], out)
 }
 
 // Writes a poll of a group.

@@ -3,6 +3,7 @@ pub mod Codes
 pub mod Pairs
 pub mod Pattern
 pub mod Put
+pub mod Read
 pub mod ReadAfterWrite
 pub mod Write
 pub mod WriteAfterRead

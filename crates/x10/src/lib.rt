@@ -8,9 +8,9 @@ use answer::Written;
 use codes::Lookup;
 use codes::code_at;
 use codes::function_of;
-use pairs::are_places;
 use parts::STANDARD;
 use parts::read_key;
+use parts::refuse;
 use parts::starts;
 use parts::write_long;
 use parts::write_standard;
@@ -88,11 +88,8 @@ pub fn read(places: &[u8]) -> Pattern
     if places.len() < STANDARD {
         return Pattern::Refused(Refusal::Short);
     }
-    if !are_places(places, 0, STANDARD) {
-        return Pattern::Refused(Refusal::Field);
-    }
     if !starts(places) {
-        return Pattern::Refused(Refusal::Start);
+        return refuse(places, 0, STANDARD, Refusal::Start);
     }
     read_key(places)
 }

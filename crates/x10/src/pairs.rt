@@ -26,10 +26,10 @@ pub(crate) fn are_places(s: &[u8], from: usize, to: usize) -> bool
     seen < 2
 }
 
-fn wide(x: u8) -> u16
+fn wide(x: u8) -> u32
     ensures { λ r. ⌜ r ≡ x ⌝ }
 {
-    x as u16
+    x as u32
 }
 
 // The number that `width` pairs from `from` on spell, highest bit first.

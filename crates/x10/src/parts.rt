@@ -11,15 +11,16 @@ use crate::pairs::spelled;
 use answer::Refusal;
 use answer::Written;
 ghost use mathlib.Core.Path.{_≡_};
+ghost use mathlib.Core.Bool.{true, not};
 ghost use Prim.Native.Nat.{_+_, _<_, _≤_};
 ghost use mathlib.Core.List.{_++_};
 ghost use lib.ListN.{length};
-ghost use lib.Seq.{sets};
-ghost use Rattle.answer.specs.Answer.{accepted, writtenOf, onAccepted, inRoom, outAfter};
-ghost use Rattle.x10.specs.Codes.{indexOf, extended1};
-ghost use Rattle.x10.specs.Places.{startCode, startsWith};
+ghost use lib.Seq.{slice, sets};
+ghost use Rattle.answer.specs.Answer.{refused, accepted, refuseIf, numberOf, writtenOf, onAccepted, inRoom, outAfter};
+ghost use Rattle.x10.specs.Codes.{extended1};
+ghost use Rattle.x10.specs.Places.{arePlaces, startCode, startsWith};
 ghost use Rattle.x10.specs.Answers.{outcomeOf};
-ghost use Rattle.x10.specs.Pattern.{readKey, readFunction, readRest, ending, unit, standard, extension};
+ghost use Rattle.x10.specs.Pattern.{readKey, readFunction, readRest, standard, extension};
 
 // The places of a standard pattern, and of an Extended 1.
 pub const STANDARD: usize = 22;
@@ -56,41 +57,45 @@ pub(crate) fn starts(places: &[u8]) -> bool
     places[3] == 0
 }
 
-// House and key, after the first checks: 5, then by the key.
+// Refuses places from `from` up to `to` that are wrong in some way: 8 where one is neither 0 nor 1, else as given. A start code and bits that
+// each make 1 with their complement are 0 or 1, so that only what is refused otherwise is looked at place by place.
+pub(crate) fn refuse(places: &[u8], from: usize, to: usize, otherwise: Refusal) -> Pattern
+    requires { ⌜ (from ≤ to) × (to ≤ length (now places)) ⌝ }
+    ensures { λ r. ⌜ outcomeOf r ≡ refuseIf (not (arePlaces (slice from to (now (places .entry))))) 8 (refused (numberOf otherwise)) ⌝ }
+{
+    if !are_places(places, from, to) {
+        return Pattern::Refused(Refusal::Field);
+    }
+    Pattern::Refused(otherwise)
+}
+
+// House and key, after the start code: 8 or 5, then by the key.
 pub(crate) fn read_key(places: &[u8]) -> Pattern
-    requires { ⌜ 22 ≤ length (now places) ⌝ }
-    ensures { λ r. ⌜ outcomeOf r ≡ readKey (now (places .entry)) ⌝ }
+    requires { ⌜ (22 ≤ length (now places)) × (startsWith startCode (now places) ≡ true) ⌝ }
+    ensures { λ r. ⌜ outcomeOf r ≡ refuseIf (not (arePlaces (slice 0 22 (now (places .entry))))) 8 (readKey (now (places .entry))) ⌝ }
 {
     let house_bits = spelled(places, HOUSE, 4);
     let Spelling::Number(house) = house_bits else {
-        return Pattern::Refused(Refusal::Checksum);
+        return refuse(places, 0, STANDARD, Refusal::Checksum);
     };
     let key_bits = spelled(places, KEY, 4);
     let Spelling::Number(key) = key_bits else {
-        return Pattern::Refused(Refusal::Checksum);
+        return refuse(places, 0, STANDARD, Refusal::Checksum);
     };
     let d16_bits = spelled(places, D16, 1);
     let Spelling::Number(d16) = d16_bits else {
-        return Pattern::Refused(Refusal::Checksum);
+        return refuse(places, 0, STANDARD, Refusal::Checksum);
     };
     if d16 == 0 {
-        return read_unit(places, house, key);
+        if places.len() > STANDARD {
+            return Pattern::Refused(Refusal::Long);
+        }
+        return Pattern::Unit {
+            house: index_of(house),
+            unit: index_of(key) + 1,
+        };
     }
     read_function(places, house, key)
-}
-
-// A key with D16 0: a unit, then 4.
-fn read_unit(places: &[u8], house: u8, key: u8) -> Pattern
-    requires { ⌜ (house < 16) × (key < 16) ⌝ }
-    ensures { λ r. ⌜ outcomeOf r ≡ ending 22 (now (places .entry)) (unit (indexOf house) (indexOf key + 1)) ⌝ }
-{
-    if places.len() > STANDARD {
-        return Pattern::Refused(Refusal::Long);
-    }
-    Pattern::Unit {
-        house: index_of(house),
-        unit: index_of(key) + 1,
-    }
 }
 
 // A key with D16 1: Extended 1, or 6, then 4.
@@ -122,20 +127,17 @@ fn read_rest(places: &[u8], house: u8) -> Pattern
     if places.len() < EXTENDED {
         return Pattern::Refused(Refusal::Short);
     }
-    if !are_places(places, STANDARD, EXTENDED) {
-        return Pattern::Refused(Refusal::Field);
-    }
     let key_bits = spelled(places, UNIT, 4);
     let Spelling::Number(key) = key_bits else {
-        return Pattern::Refused(Refusal::Checksum);
+        return refuse(places, STANDARD, EXTENDED, Refusal::Checksum);
     };
     let data_bits = spelled(places, DATA, 8);
     let Spelling::Number(data) = data_bits else {
-        return Pattern::Refused(Refusal::Checksum);
+        return refuse(places, STANDARD, EXTENDED, Refusal::Checksum);
     };
     let command_bits = spelled(places, COMMAND, 8);
     let Spelling::Number(command) = command_bits else {
-        return Pattern::Refused(Refusal::Checksum);
+        return refuse(places, STANDARD, EXTENDED, Refusal::Checksum);
     };
     if EXTENDED < places.len() {
         return Pattern::Refused(Refusal::Long);

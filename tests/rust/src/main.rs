@@ -2,6 +2,7 @@
 //!
 //! --seed N     only this seed
 //! --seconds N  random inputs for N seconds, in place of a fixed count
+//! --all-floats only setpoints_to_bytes, on every f32: some minutes
 
 mod calls;
 mod compare;
@@ -25,19 +26,22 @@ const LISTING: u64 = 64;
 struct Arguments {
     seed: Option<u64>,
     seconds: Option<u64>,
+    all_floats: bool,
 }
 
 fn arguments() -> Option<Arguments> {
     let mut found = Arguments {
         seed: None,
         seconds: None,
+        all_floats: false,
     };
     let mut words = std::env::args().skip(1);
     while let Some(word) = words.next() {
-        let number = words.next()?.parse().ok()?;
+        let mut number = || words.next()?.parse().ok();
         match word.as_str() {
-            "--seed" => found.seed = Some(number),
-            "--seconds" => found.seconds = Some(number),
+            "--seed" => found.seed = Some(number()?),
+            "--seconds" => found.seconds = Some(number()?),
+            "--all-floats" => found.all_floats = true,
             _ => return None,
         }
     }
@@ -100,23 +104,33 @@ fn table(compare: &Compare) -> usize {
     missing
 }
 
+/// Inputs in order, then random ones; gives how many answers were never met.
+fn everything(compare: &mut Compare, seeds: Vec<u64>, seconds: Option<u64>) -> usize {
+    sweeps::all(compare, &mut Random::new(seeds[0]));
+    println!("in order: {} compared", compare.passed + compare.failed);
+    for seed in seeds {
+        println!("seed {seed}");
+        compare.reseed(seed);
+        random_part(compare, &mut Random::new(seed), seconds);
+    }
+    table(compare)
+}
+
 fn main() -> ExitCode {
     let Some(arguments) = arguments() else {
-        eprintln!("usage: outside [--seed N] [--seconds N]");
+        eprintln!("usage: outside [--seed N] [--seconds N] [--all-floats]");
         return ExitCode::from(2);
     };
     guard::report_faults();
     let start = Instant::now();
     let seeds = seeds(&arguments);
     let mut compare = Compare::new(seeds[0]);
-    sweeps::all(&mut compare, &mut Random::new(seeds[0]));
-    println!("in order: {} compared", compare.passed + compare.failed);
-    for seed in seeds {
-        println!("seed {seed}");
-        compare.reseed(seed);
-        random_part(&mut compare, &mut Random::new(seed), arguments.seconds);
-    }
-    let missing = table(&compare);
+    let missing = if arguments.all_floats {
+        sweeps::floats(&mut compare);
+        0
+    } else {
+        everything(&mut compare, seeds, arguments.seconds)
+    };
     println!("{:.1} seconds", start.elapsed().as_secs_f64());
     println!("{} passed, {} failed", compare.passed, compare.failed);
     if compare.failed > 0 || missing > 0 {

@@ -117,6 +117,15 @@ fn temperatures(compare: &mut Compare, random: &mut Random) {
     }
 }
 
+/// Every f32, as either value of a pair.
+pub fn floats(compare: &mut Compare) {
+    for bits in 0..=u32::MAX {
+        let any = f32::from_bits(bits);
+        compare.setpoints_to_bytes(any, 20.5);
+        compare.setpoints_to_bytes(20.5, any);
+    }
+}
+
 fn costs(compare: &mut Compare, random: &mut Random) {
     let mut sum = 0;
     for word in 0..=65535 {

@@ -1,14 +1,11 @@
--- What a reader answers, from the data bytes to the message that they stand in, and from the message back to the count of its values.
--- Assumes nothing.
+-- What a reader answers, from the data bytes to the message that they stand in, and from the message back to its bytes. Assumes nothing.
 use mathlib.Core.Path.{_≡_, refl, sym, ap, _∙_}
 use mathlib.Core.Bool.{not}
-use mathlib.Core.List.{List, [], _∷_, _++_}
-use Prim.Native.Nat.{ℕ, zero, suc}
-use native.Mathlib.Omega.{arith}
-use lib.ListN.{length, take, drop, take-append-drop}
+use mathlib.Core.List.{List, _∷_, _++_}
+use Prim.Native.Nat.{ℕ}
+use lib.ListN.{take, drop, take-append-drop}
 use lib.Seq.{drop-drop}
 use Rattle.answer.specs.Answer.{Outcome, accepted, refuseIf, onAccepted}
-use Rattle.omnistat.specs.declared.group.Group.{Group}
 use Rattle.omnistat.specs.declared.frame.End.{End}
 use Rattle.omnistat.specs.declared.frame.End.the-variants.{Thermostat, Host}
 use Rattle.omnistat.specs.declared.message.Run.{Run}
@@ -17,11 +14,11 @@ use Rattle.omnistat.specs.declared.request.Request.the-variants.{Refused
 use Rattle.omnistat.specs.declared.reply.Reply.{Reply as ReplyAnswer}
 use Rattle.omnistat.specs.declared.reply.Reply.the-variants.{Refused as ReplyRefused, Acknowledge, Negative, Data, Group as GroupAnswer}
 use Rattle.omnistat.specs.Frame.{framed, bytesOf, directed, firstOf}
-use Rattle.omnistat.specs.Message.{Message, setFrom, dataFrom, group, asRun, asMessage, bodyOf}
+use Rattle.omnistat.specs.Message.{Message, setFrom, dataFrom, asRun, asMessage, bodyOf}
 use Rattle.omnistat.specs.Omnistat.{Addressed, addressed, read, writeBytes}
 use Rattle.omnistat.specs.Answer.{requestIn, replyIn}
-use Rattle.omnistat.specs.Parts.{runIn, Says, passed}
-use Rattle.answer.proofs.Laws.Test.{same, passed-not, then-accepted, in-one}
+use Rattle.omnistat.specs.Parts.{runIn, Says}
+use Rattle.answer.proofs.Laws.Test.{same, passed-not, then-accepted}
 use Rattle.omnistat.proofs.Laws.Message.{run-natural}
 use Rattle.omnistat.proofs.Laws.Omnistat.{write-after-read}
 use Rattle.omnistat.proofs.Laws.Typed.{again}
@@ -55,15 +52,6 @@ module _ (s payload : List ℕ) (n : ℕ) (e : payload ≡ take n (drop 2 s)) wh
   pub reply-in : (r : ReplyAnswer) (o : Outcome (Addressed (Message Host))) → Says replyIn payload r o → replyIn s r ≡ o
   reply-in = in-message replyIn reply-after s payload n e
 
--- only whether it is accepted, by the answer's case
-pub checked : {A M : Type 0} (reading : List ℕ → A → Outcome (Addressed M)) (payload : List ℕ) (r q : A) (o : Outcome M)
-    → Says reading payload r (onAccepted (addressed 0) o) → r ≡ q
-    → onAccepted passed (reading (0 ∷ 0 ∷ (payload ++ [])) q) ≡ onAccepted passed o
-checked {A = A} reading payload r q o says k =
-    ap (λ (x : A). onAccepted passed (reading (0 ∷ 0 ∷ (payload ++ [])) x)) (sym k)
-    ∙ ap (onAccepted passed) (says [])
-    ∙ in-one (addressed 0) passed o
-
 -- a run that was read is made into a message
 pub run-made : {M : Type 0} (address : ℕ) (make : ℕ → List ℕ → M) (payload : List ℕ) (r : Run)
     → Says runIn payload r (asRun (λ start values. (start, values)) payload)
@@ -86,31 +74,3 @@ message-read end address m s e =
       p .1 ∙ ap accepted (sym (again end m (p .0) (p .1))),
       sym (same (passed-not (directed end (firstOf end address)) 8 (accepted bytes) s (p .2) .1)),
     )
-
--- values that stand before one more byte are as many as were taken
-taken-count : (values : List ℕ) (last count : ℕ) → values ≡ take count (values ++ (last ∷ [])) → length values ≡ count
-taken-count [] last zero e = refl
-taken-count [] last (suc count) e = absurd (let z : _≡_ {A = ℕ} 0 1 = cc in omega arith)
-taken-count (v ∷ values) last zero e = absurd (let z : _≡_ {A = ℕ} 0 1 = cc in omega arith)
-taken-count (v ∷ values) last (suc count) e =
-    let f : values ≡ take count (values ++ (last ∷ [])) = cc in
-    ap suc (taken-count values last count f)
-
-module _ (address : ℕ) (s : List ℕ) (count : ℕ) where
-  pub set-count : (start : ℕ) → read Thermostat s ≡ accepted (addressed address (setFrom start (take count (drop 3 s)))) → length (take count (drop 3 s)) ≡ count
-  unfolding bytesOf
-  set-count start e =
-      let v = take count (drop 3 s) in
-      taken-count v _ count (ap (λ (t : List ℕ). take count (drop 3 t)) (message-read Thermostat address (setFrom start v) s e .1))
-
-  pub data-count : (start : ℕ) → read Host s ≡ accepted (addressed address (dataFrom start (take count (drop 3 s)))) → length (take count (drop 3 s)) ≡ count
-  unfolding bytesOf
-  data-count start e =
-      let v = take count (drop 3 s) in
-      taken-count v _ count (ap (λ (t : List ℕ). take count (drop 3 t)) (message-read Host address (dataFrom start v) s e .1))
-
-  pub group-count : (g : Group) → read Host s ≡ accepted (addressed address (group g (take count (drop 2 s)))) → length (take count (drop 2 s)) ≡ count
-  unfolding bytesOf
-  group-count g e =
-      let v = take count (drop 2 s) in
-      taken-count v _ count (ap (λ (t : List ℕ). take count (drop 2 t)) (message-read Host address (group g v) s e .1))

@@ -57,31 +57,6 @@ poll-of (a ∷ []) t h e = absurd (omega arith)
 poll-of (a ∷ b ∷ []) t h e = ap (λ (x : Bool). refuseIf (not x) 8 (accepted (poll a b))) e
 poll-of (a ∷ b ∷ c ∷ d) t h e = absurd (omega arith)
 
--- a start register and values
-module _ {M : Type 0} (make : ℕ → List ℕ → M) where
-  pub run-short : (d : List ℕ) → length d < 2 → asRun make d ≡ refused 7
-  run-short [] h = refl
-  run-short (a ∷ d) h =
-      let k : length d < 1 = omega arith in
-      simp (too-low 1 14 (length d) k)
-
-  pub run-long : (d : List ℕ) → 15 < length d → asRun make d ≡ refused 7
-  run-long [] h = refl
-  run-long (a ∷ d) h =
-      let k : 14 < length d = omega arith in
-      simp (too-high 1 14 (length d) k)
-
-  module _ (allowed : Bool) where
-    pub run-of : (d : List ℕ) → 2 ≤ length d → length d ≤ 15 → runAllowed (getD d 0 0) (length d - 1) ≡ allowed
-        → asRun make d ≡ refuseIf (not allowed) 8 (accepted (make (getD d 0 0) (drop 1 d)))
-    run-of [] h k e = absurd (omega arith)
-    run-of (a ∷ d) h k e =
-        let l : 1 ≤ length d = omega arith in
-        let m : length d ≤ 14 = omega arith in
-        let n : length d ≡ suc (length d) - 1 = omega arith in
-        let f : runAllowed a (length d) ≡ allowed = ap (λ (i : ℕ). runAllowed a i) n ∙ e in
-        simp (inside 1 14 (length d) l m, f)
-
 -- the values of a run, in a message
 pub values-taken : (d rest : List ℕ) → 0 < length d → take (length d - 1) (drop 1 (d ++ rest)) ≡ drop 1 d
 values-taken [] rest h = absurd (omega arith)
@@ -89,7 +64,7 @@ values-taken (a ∷ d) rest h =
     let n : suc (length d) - 1 ≡ length d = omega arith in
     ap (λ (k : ℕ). take k (d ++ rest)) n ∙ take-append-seam d rest
 
-refuse-natural : {M N : Type 0} (f : M → N) (t : Bool) (n : ℕ) (o : Outcome M) → onAccepted f (refuseIf t n o) ≡ refuseIf t n (onAccepted f o)
+pub refuse-natural : {M N : Type 0} (f : M → N) (t : Bool) (n : ℕ) (o : Outcome M) → onAccepted f (refuseIf t n o) ≡ refuseIf t n (onAccepted f o)
 refuse-natural f true n o = refl
 refuse-natural f false n o = refl
 

@@ -2,7 +2,7 @@
 use mathlib.Core.Path.{_≡_, refl, sym, ap, _∙_, subst}
 use mathlib.Core.Bool.{Bool, true, false, not}
 use mathlib.Core.List.{List, _∷_}
-use Prim.Native.Nat.{ℕ, _+_, _≤_, _<_}
+use Prim.Native.Nat.{ℕ, _+_, _*_, _≤_, _<_}
 use native.Mathlib.Omega.{arith}
 use lib.Dec.{leb}
 use lib.ListN.{length}
@@ -10,13 +10,13 @@ use borrow.Author.Tests.{leb-true, leb-false}
 use Rattle.answer.specs.Answer.{refused, accepted, refuseIf, onAccepted}
 use Rattle.omnistat.specs.declared.frame.End.{End}
 use Rattle.omnistat.specs.declared.frame.End.the-variants.{Thermostat, Host}
-use Rattle.omnistat.specs.Frame.{Frame, framed, frame, directed, addressOf, firstOf, bytesOf}
-use Rattle.omnistat.specs.Message.{Message, setFrom, dataFrom, asMessage, bodyOf}
+use Rattle.omnistat.specs.Frame.{Frame, frame, directed, addressOf, firstOf, bytesOf, summed}
+use Rattle.omnistat.specs.Message.{Message, asMessage, bodyOf}
 use Rattle.omnistat.specs.Omnistat.{Addressed, addressed, read, write, writeBytes}
 use Rattle.omnistat.specs.Parts.{passed}
 use Rattle.answer.proofs.Laws.Test.{same, passed-not, then-accepted, on-accepted, still-refused}
 use Rattle.omnistat.proofs.Laws.Frame.{taken-apart, read-back}
-use Rattle.omnistat.proofs.Laws.Message.{too-low, too-high, inside, within-both, run-long}
+use Rattle.omnistat.proofs.Laws.Message.{too-low, too-high, inside, within-both}
 use Rattle.omnistat.proofs.Laws.Typed.{told, kind-fits, again}
 
 -- reading, by the frame
@@ -133,19 +133,9 @@ module _ (end : End) (address kind : ℕ) (payload : List ℕ) where
         let p = on-accepted passed (asMessage end kind payload) tt (sym e) in
         simp (p .1, a)
 
-    pub write-framed : directed end (firstOf end address) ≡ true
-        → writeBytes end address kind payload ≡ accepted (bytesOf (framed (firstOf end address) kind payload))
-    unfolding writeBytes
-    write-framed a =
+    pub write-summed : directed end (firstOf end address) ≡ true → (second : ℕ) → second ≡ length payload * 16 + kind
+        → writeBytes end address kind payload ≡ accepted (summed (firstOf end address ∷ second ∷ payload))
+    unfolding writeBytes bytesOf
+    write-summed a second s =
         let p = on-accepted passed (asMessage end kind payload) tt (sym e) in
-        simp (p .1, a)
-
--- more values than a message can carry
-module _ (address start : ℕ) (values : List ℕ) (h : 14 < length values) where
-  pub set-too-long : write Thermostat address (setFrom start values) ≡ refused 7
-  unfolding writeBytes asMessage
-  set-too-long = let k : 15 < length (start ∷ values) = omega arith in simp (run-long setFrom (start ∷ values) k)
-
-  pub data-too-long : write Host address (dataFrom start values) ≡ refused 7
-  unfolding writeBytes asMessage
-  data-too-long = let k : 15 < length (start ∷ values) = omega arith in simp (run-long dataFrom (start ∷ values) k)
+        simp (p .1, a) (ap (λ (n : ℕ). accepted (summed (firstOf end address ∷ n ∷ payload))) (sym s))

@@ -1,15 +1,15 @@
--- What the frame writer leaves in the output, step by step. Assumes nothing.
+-- What a writer leaves in the lent output: a message's bytes, and the sum after them. Assumes nothing.
 use mathlib.Core.Path.{_≡_, sym, ap, _∙_, subst}
 use mathlib.Core.List.{List, [], _∷_, _++_}
-use Prim.Native.Nat.{ℕ, suc, _+_, _*_, _≤_, _<_}
+use Prim.Native.Nat.{ℕ, suc, _+_, _%_, _<_, _≤_}
 use native.Mathlib.Omega.{arith}
 use lib.ListN.{length, take, drop, set, length-append}
-use lib.Seq.{paste, take-length, take-at, take-paste}
+use lib.Seq.{paste, take-length}
 use Rattle.answer.specs.Answer.{Outcome, refused, accepted, inRoom, outAfter, onAccepted}
-use Rattle.answer.proofs.Laws.Output.{begun, put-next}
-use Rattle.omnistat.specs.Frame.{framed, sumOf, bytesOf}
+use Rattle.answer.proofs.Laws.Output.{begun, put-next, no-room, with-room}
+use Rattle.omnistat.specs.Frame.{framed, total, sumOf, summed, bytesOf}
 
--- the two bytes before the data bytes, then these
+-- the bytes before the data bytes, then these
 pub data-placed : (a b : ℕ) (p old : List ℕ) → 2 ≤ length old → paste (set (set old 0 a) 1 b) 2 p (length p) ≡ begun (a ∷ b ∷ p) old
 data-placed a b p [] h = absurd (omega arith)
 data-placed a b p (o ∷ []) h = absurd (omega arith)
@@ -18,25 +18,27 @@ data-placed a b p (o ∷ q ∷ old) h =
     ap (λ (n : ℕ). a ∷ b ∷ (take (length p) p ++ drop n (a ∷ b ∷ old))) e
     ∙ ap (λ (x : List ℕ). a ∷ b ∷ (x ++ drop (length p) old)) (take-length p)
 
+pub run-placed : (a b s : ℕ) (p old : List ℕ) → 3 ≤ length old → paste (set (set (set old 0 a) 1 b) 2 s) 3 p (length p) ≡ begun (a ∷ b ∷ s ∷ p) old
+run-placed a b s p [] h = absurd (omega arith)
+run-placed a b s p (o ∷ []) h = absurd (omega arith)
+run-placed a b s p (o ∷ q ∷ []) h = absurd (omega arith)
+run-placed a b s p (o ∷ q ∷ r ∷ old) h =
+    let e : 3 + length p ≡ suc (suc (suc (length p))) = omega arith in
+    ap (λ (n : ℕ). a ∷ b ∷ s ∷ (take (length p) p ++ drop n (a ∷ b ∷ s ∷ old))) e
+    ∙ ap (λ (x : List ℕ). a ∷ b ∷ s ∷ (x ++ drop (length p) old)) (take-length p)
+
 pub bytes-length : (first kind : ℕ) (p : List ℕ) → length (bytesOf (framed first kind p)) ≡ length p + 3
 unfolding bytesOf
 bytes-length first kind p = simp length-append (omega arith)
 
-module _ (first kind : ℕ) (p old : List ℕ) where
-  abbrev pub earlier : List ℕ
-  earlier = first ∷ (length p * 16 + kind) ∷ p
+-- a byte before others, in their sum
+pub sum-two : (a b : ℕ) (p : List ℕ) → ((a + b) % 256 + sumOf p) % 256 ≡ sumOf (a ∷ b ∷ p)
+unfolding total
+sum-two a b p = omega arith
 
-  pub earlier-bytes : take (length p + 2) (begun earlier old) ≡ earlier
-  earlier-bytes =
-      let e : length earlier ≡ length p + 2 = omega arith in
-      take-at earlier (drop (length earlier) old) (length p + 2) e
-
-  -- the sum after them
-  pub sum-placed : length p + 2 < length old → set (begun earlier old) (length p + 2) (sumOf earlier) ≡ outAfter (accepted (bytesOf (framed first kind p))) old
-  unfolding bytesOf
-  sum-placed h =
-      let e : length p + 2 ≡ length earlier = omega arith in
-      ap (λ (n : ℕ). set (begun earlier old) n (sumOf earlier)) e ∙ put-next earlier old (sumOf earlier) (omega arith)
+pub sum-three : (a b s : ℕ) (p : List ℕ) → (((a + b) % 256 + s) % 256 + sumOf p) % 256 ≡ sumOf (a ∷ b ∷ s ∷ p)
+unfolding total
+sum-three a b s p = omega arith
 
 -- a writer that refuses, and one that goes by another's outcome
 module _ (old : List ℕ) where
@@ -52,13 +54,28 @@ module _ (old : List ℕ) where
   pub leaves-same : (o p : Outcome (List ℕ)) (answer : Outcome ℕ) (after : List ℕ) → o ≡ p → Leaves p answer after → Leaves o answer after
   leaves-same o p answer after e h = subst (λ (q : Outcome (List ℕ)). Leaves q answer after) (sym e) h
 
--- a start register and its values, at the start of a longer list
-pub run-placed : (start : ℕ) (values d : List ℕ) → length values < length d
-    → take (length values + 1) (paste (set d 0 start) 1 values (length values)) ≡ start ∷ values
-run-placed start values [] h = absurd (omega arith)
-run-placed start values (o ∷ d) h =
-    let e : length values + 1 ≡ 1 + length values = omega arith in
-    let n : 1 ≤ length (start ∷ d) = omega arith in
-    ap (λ (k : ℕ). take k (paste (start ∷ d) 1 values (length values))) e
-    ∙ take-paste (start ∷ d) 1 values (length values) n (omega arith)
-    ∙ ap (λ (v : List ℕ). start ∷ v) (take-length values)
+  -- a message's earlier bytes: no room for the sum, or the sum after them
+  module _ (earlier : List ℕ) where
+    summed-length : length (summed earlier) ≡ length earlier + 1
+    summed-length = simp length-append
+
+    pub leaves-no-room : length old ≤ length earlier → Leaves (accepted (summed earlier)) (refused 9) old
+    leaves-no-room h =
+        let e : inRoom (length old) (accepted (summed earlier)) ≡ refused 9
+        = no-room (length old) (summed earlier) (omega (arith, summed-length)) in
+        (ap (onAccepted length) (sym e), ap (λ (o : Outcome (List ℕ)). outAfter o old) (sym e))
+
+    pub leaves-summed : (last s : ℕ) (after : List ℕ) → last ≡ length earlier → s ≡ sumOf earlier → last < length old
+        → after ≡ begun earlier old → Leaves (accepted (summed earlier)) (accepted (last + 1)) (set after last s)
+    leaves-summed last s after n t h b =
+        let l : length earlier < length old = omega arith in
+        let w : last + 1 ≡ length (summed earlier) = omega (arith, summed-length) in
+        let e : inRoom (length old) (accepted (summed earlier)) ≡ accepted (summed earlier)
+        = with-room (length old) (summed earlier) (omega (arith, summed-length)) in (
+          ap accepted w ∙ ap (onAccepted length) (sym e),
+          ap (λ (x : List ℕ). set x last s) b
+              ∙ ap (λ (k : ℕ). set (begun earlier old) k s) n
+              ∙ ap (set (begun earlier old) (length earlier)) t
+              ∙ put-next earlier old (sumOf earlier) l
+              ∙ ap (λ (o : Outcome (List ℕ)). outAfter o old) (sym e),
+        )

@@ -62,7 +62,7 @@ one-of t k m x y this later e =
     ⊎-elim (λ w. this (sym (eqb-true t k (w .0))) (w .1)) (λ w. later (w .1)) (chosen (eqb t k) x y (accepted m) e)
 
 -- a group that is found has this type
-found-group : (type : Group → ℕ) (t : ℕ) (g : Group) → groupOf type t ≡ accepted g → type g ≡ t
+pub found-group : (type : Group → ℕ) (t : ℕ) (g : Group) → groupOf type t ≡ accepted g → type g ≡ t
 found-group type t g =
     one-of t (type First) g (accepted First) _ (found First)
     (one-of t (type Second) g (accepted Second) _ (found Second)

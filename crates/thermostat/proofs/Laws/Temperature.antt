@@ -3,13 +3,13 @@ use mathlib.Core.Path.{_≡_, refl, sym, ap, _∙_, subst}
 use mathlib.Core.Bool.{Bool, true, false, not, cond, _&&_, _||_}
 use mathlib.Core.List.{List, [], _∷_}
 use mathlib.Core.Logic.{_⊎_, inl, inr, ⊎-elim}
-use Prim.Native.Nat.{ℕ, zero, suc, _+_, _-_, _*_, _<_, _≤_}
+use Prim.Native.Nat.{ℕ, zero, suc, _+_, _-_, _*_, _%_, _<_, _≤_}
 use native.Mathlib.Nat.{add-zero, zero-add, add-suc, suc-add, le-of-suc-le-suc, not-suc-le-zero}
 use native.Mathlib.Omega.{arith}
 use lib.Dec.{T, eqb, ltb}
 use lib.Count.{trailingZeros}
 use lib.IntN.{pos}
-use lib.Ieee.{Float, nan, inf, fin, binary32, up, down, level, round, size, span, climb, units, odd, mul, sub, add, neg, sum, ofInt, ofBits, ofFields, lt, eq, toUnsigned, fits}
+use lib.Ieee.{Float, nan, inf, fin, binary32, up, down, level, round, size, span, climb, units, odd, mul, sub, add, neg, sum, ofInt, ofBits, ofFields, eq, toBits, isNan, fits}
 use lib.Ieee.Fits.{round-fits}
 use borrow.Author.Tests.{eqb-true}
 use Rattle.answer.specs.Answer.{Outcome, refused, accepted}
@@ -56,23 +56,29 @@ exact n h = holds (isHalves (celsius n) (ltb n 80) ((n - 80) + (80 - n))) (below
 
 -- ---- back
 
--- the code's arithmetic: x plus 40.0, times 2.0
+-- the code's arithmetic: x plus 2^22 + 40
 abbrev pub counted : Float → Float
-counted x = mul binary32 (add binary32 x (ofBits binary32 1109393408)) (ofBits binary32 1073741824)
+counted x = add binary32 x (ofBits binary32 1249902672)
 
 -- the arithmetic finds n
 abbrev finds : Float → ℕ → Bool
-finds x n =
-    lt (fin true 1 (pos 0)) (counted x) && (lt (counted x) (fin false 1 (pos 64)) && eqb (toUnsigned 64 (counted x)) n)
+finds x n = eq (counted x) (counted x) && eqb (toBits binary32 (counted x) % 256) n
 
 finds-own : (n : ℕ) → n < 256 → T (finds (celsius n) n)
-unfolding celsius round size span climb units odd mul add sum ofBits ofFields trailingZeros lt toUnsigned
+unfolding celsius round size span climb units odd add sum ofBits ofFields trailingZeros eq toBits
 finds-own n h = below (λ k. finds (celsius k) k) 256 tt n h
 
 finds-80 : (s : Bool) → T (finds (zeroOf s) 80)
-unfolding round size span climb units odd mul add sum ofBits ofFields trailingZeros lt toUnsigned
+unfolding round size span climb units odd add sum ofBits ofFields trailingZeros eq toBits
 finds-80 true = tt
 finds-80 false = tt
+
+-- only a NaN differs from itself
+pub a-number : (y : Float) → eq y y ≡ true → T (not (isNan y))
+unfolding eq isNan
+a-number nan e = let z : _≡_ {A = ℕ} 0 1 = cc in absurd (omega arith)
+a-number (inf s) e = tt
+a-number (fin s m k) e = tt
 
 -- only byte 80 is zero degrees
 abbrev isZero : Float → Bool
@@ -103,19 +109,14 @@ module _ (x : Float) (f : T (fits binary32 x)) where
       (equal binary32 x (celsius n) f (celsius-fits n) e)
 
   -- what the arithmetic says of a byte whose temperature equals x
-  pub above-least : (n : ℕ) → n < 256 → eq x (celsius n) ≡ true → lt (fin true 1 (pos 0)) (counted x) ≡ true
-  above-least n h e = holds (lt (fin true 1 (pos 0)) (counted x)) (both-left (lt (fin true 1 (pos 0)) (counted x)) _ (found n h e))
+  pub no-nan : (n : ℕ) → n < 256 → eq x (celsius n) ≡ true → eq (counted x) (counted x) ≡ true
+  no-nan n h e =
+      holds (eq (counted x) (counted x)) (both-left (eq (counted x) (counted x)) (eqb (toBits binary32 (counted x) % 256) n) (found n h e))
 
-  pub under-most : (n : ℕ) → n < 256 → eq x (celsius n) ≡ true → lt (counted x) (fin false 1 (pos 64)) ≡ true
-  under-most n h e =
-      holds (lt (counted x) (fin false 1 (pos 64)))
-      (both-left (lt (counted x) (fin false 1 (pos 64))) (eqb (toUnsigned 64 (counted x)) n) (both-right (lt (fin true 1 (pos 0)) (counted x)) _ (found n h e)))
-
-  pub the-byte : (n : ℕ) → n < 256 → eq x (celsius n) ≡ true → toUnsigned 64 (counted x) ≡ n
+  pub the-byte : (n : ℕ) → n < 256 → eq x (celsius n) ≡ true → toBits binary32 (counted x) % 256 ≡ n
   the-byte n h e =
-      eqb-true (toUnsigned 64 (counted x)) n
-      (holds (eqb (toUnsigned 64 (counted x)) n)
-      (both-right (lt (counted x) (fin false 1 (pos 64))) (eqb (toUnsigned 64 (counted x)) n) (both-right (lt (fin true 1 (pos 0)) (counted x)) _ (found n h e))))
+      eqb-true (toBits binary32 (counted x) % 256) n
+      (holds (eqb (toBits binary32 (counted x) % 256) n) (both-right (eq (counted x) (counted x)) (eqb (toBits binary32 (counted x) % 256) n) (found n h e)))
 
 either-way : {A : Type 0} (b : Bool) (p q r : A) → (b ≡ true → p ≡ r) → (b ≡ false → q ≡ r) → cond b p q ≡ r
 either-way true p q r f g = f refl

@@ -1,80 +1,52 @@
-use mathlib.Core.Path.{_≡_, sym, ap, _∙_}
-use mathlib.Core.List.{List}
-use Prim.Native.Nat.{ℕ, _+_, _*_}
+use mathlib.Core.Path.{_≡_, ap, _∙_}
+use mathlib.Core.List.{_∷_}
+use Prim.Native.Nat.{ℕ, _+_, _%_}
 use native.Mathlib.Omega.{arith}
 use denote.Ref.{now}
-use lib.ListN.{length, take, set, length-set}
-use lib.Seq.{length-take-le}
-use Rattle.answer.specs.Answer.{Outcome, refused, accepted, onAccepted, inRoom, outAfter}
-use Rattle.answer.proofs.Laws.Output.{begun, no-room, with-room}
-use Rattle.omnistat.specs.Frame.{framed, sumOf, bytesOf}
-use Rattle.omnistat.proofs.Laws.Output.{earlier, data-placed, earlier-bytes, sum-placed, bytes-length}
+use lib.ListN.{length, length-set}
+use Rattle.omnistat.specs.Frame.{sumOf}
+use Rattle.omnistat.proofs.Laws.Output.{data-placed, sum-two, leaves-no-room, leaves-summed}
 use borrow.Author.Needs.{needs}
 use Rattle.omnistat.proofs.frame.write.Statement.{statement}
 use Rattle.omnistat.proofs.frame.write.Tie as tie
 
--- after the copy the output has begun with all bytes but the sum
-placed : (c : tie.After-copy)
-    → c .copy .last .0
-    ≡ begun (earlier (c .before .before .before .before .before .args .first) (c .before .before .before .before .before .args .kind) (now (c .before .before .before .before .before .args .payload)) (now (c .before .before .before .before .before .args .out)))
-    (now (c .before .before .before .before .before .args .out))
-placed c =
-    let a = c .before .before .before .before .before .args in
-    let p = now (a .payload) in
-    let old = now (a .out) in
-    c .copy .ensures ∙ data-placed (a .first) (length p * 16 + a .kind) p old (omega arith)
+kept : (c : tie.After-put) → length (c .put .last .0) ≡ length (now (c .before .before .before .before .before .args .out))
+kept c = c .put .kept .0 ∙ simp length-set
 
-kept : (c : tie.After-copy) → length (c .copy .last .0) ≡ length (now (c .before .before .before .before .before .args .out))
-kept c = c .copy .kept .0 ∙ simp length-set
-
-add-last : tie.Need-add-last
-add-last c = search needs
+add-if1 : tie.Need-add-if1
+add-if1 c = search needs
 
 returns : tie.Need-returns
 returns c =
     let a = c .before .before .before .args in
-    let p = now (a .payload) in
-    let old = now (a .out) in
-    let bytes = bytesOf (framed (a .first) (a .kind) p) in
-    let e : inRoom (length old) (accepted bytes) ≡ refused 9
-    = no-room (length old) bytes (omega (arith, bytes-length (a .first) (a .kind) p)) in
-    (ap (onAccepted length) (sym e), ap (λ (o : Outcome (List ℕ)). outAfter o old) (sym e))
+    leaves-no-room (now (a .out)) (a .first ∷ a .second ∷ now (a .payload)) (omega arith)
+
+add-last : tie.Need-add-last
+add-last c = search needs
 
 slice-write-out : tie.Need-slice-write-out
 slice-write-out c = search needs
 
-cast-n : tie.Need-cast-n
-cast-n c = search needs
-
-mul-out : tie.Need-mul-out
-mul-out c = search needs
-
-add-out : tie.Need-add-out
-add-out c = search needs
-
 slice-write-out-2 : tie.Need-slice-write-out-2
 slice-write-out-2 c = simp length-set (omega arith)
 
-copy-requires : tie.Need-copy-requires
-copy-requires c κs = simp length-set (omega arith)
+put-requires : tie.Need-put-requires
+put-requires c κs = simp length-set (omega arith)
 
-slice-reshare-prefix-sum : tie.Need-slice-reshare-prefix-sum
-slice-reshare-prefix-sum c = omega (arith, kept (c .before .before))
+plus-requires : tie.Need-plus-requires
+plus-requires c κs = search needs
 
-slice-aggregate-sum : tie.Need-slice-aggregate-sum
-slice-aggregate-sum c = sym (length-take-le _ _ (omega (arith, kept (c .before .before .before))))
-
-sum-requires : tie.Need-sum-requires
-sum-requires c κs = search needs
+plus-requires-2 : tie.Need-plus-requires-2
+plus-requires-2 c κs = search needs
 
 slice-write-out-3 : tie.Need-slice-write-out-3
 slice-write-out-3 c = omega (arith, kept (c .before .before .before .before))
 
-add-written : tie.Need-add-written
-add-written c = search needs
+add-t8 : tie.Need-add-t8
+add-t8 c = search needs
 
-cast-t22 : tie.Need-cast-t22
-cast-t22 c = search needs
+cast-t19 : tie.Need-cast-t19
+cast-t19 c = search needs
 
 same-length : tie.Need-same-length
 same-length c = simp length-set (kept (c .before .before .before .before))
@@ -83,39 +55,29 @@ returns-2 : tie.Need-returns-2
 returns-2 c =
     let a = c .before .before .before .before .before .before .before .before .before .args in
     let p = now (a .payload) in
-    let old = now (a .out) in
-    let bytes = bytesOf (framed (a .first) (a .kind) p) in
-    let begin = earlier (a .first) (a .kind) p old in
-    let here = placed (c .before .before .before .before) in
-    let e : inRoom (length old) (accepted bytes) ≡ accepted bytes
-    = with-room (length old) bytes (omega (arith, bytes-length (a .first) (a .kind) p)) in
-    let n : length p + 2 + 1 ≡ length bytes = omega (arith, bytes-length (a .first) (a .kind) p) in
-    let s : c .sum .result ≡ sumOf begin
-    = c .sum .ensures ∙ ap sumOf (ap (take (length p + 2)) here ∙ earlier-bytes (a .first) (a .kind) p old) in (
-      ap accepted n ∙ ap (onAccepted length) (sym e),
-      ap (λ (l : List ℕ). set l (length p + 2) (c .sum .result)) here
-          ∙ ap (set (begun begin old) (length p + 2)) s
-          ∙ sum-placed (a .first) (a .kind) p old (omega arith)
-          ∙ ap (λ (o : Outcome (List ℕ)). outAfter o old) (sym e),
-    )
+    let put = c .before .before .before .before .put in
+    let sum : c .plus2 .result ≡ sumOf (a .first ∷ a .second ∷ p)
+    = c .plus2 .ensures
+    ∙ ap (λ (n : ℕ). (n + put .result) % 256) (c .before .plus .ensures)
+    ∙ ap (λ (n : ℕ). ((a .first + a .second) % 256 + n) % 256) (put .ensures .0)
+    ∙ sum-two (a .first) (a .second) p in
+    leaves-summed (now (a .out)) (a .first ∷ a .second ∷ p) (length p + 2) (c .plus2 .result) _ (omega arith) sum (omega arith)
+    (put .ensures .1 ∙ data-placed (a .first) (a .second) p (now (a .out)) (omega arith))
 
 pub write-spec : {M : Type 1} → statement M
 write-spec =
     tie.close
     (tie.spec
-    add-last
-    add-written
+    add-if1
     returns
-    cast-n
+    add-last
     slice-write-out
-    mul-out
-    add-out
     slice-write-out-2
-    copy-requires
-    slice-reshare-prefix-sum
-    slice-aggregate-sum
-    sum-requires
+    put-requires
+    plus-requires
+    plus-requires-2
     slice-write-out-3
-    cast-t22
+    add-t8
+    cast-t19
     same-length
     returns-2)

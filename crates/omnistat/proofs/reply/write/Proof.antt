@@ -1,5 +1,6 @@
 use mathlib.Core.Path.{_≡_, sym, ap, _∙_}
 use Prim.Native.Nat.{_+_}
+use native.Mathlib.Omega.{arith}
 use borrow.Author.Tests.{not-true, not-false}
 use denote.Ref.{now}
 use Rattle.answer.specs.Answer.{accepted, onAccepted, numberOf}
@@ -7,9 +8,8 @@ use Rattle.omnistat.specs.declared.frame.End.the-variants.{Host}
 use Rattle.omnistat.specs.Message.{asMessage}
 use Rattle.omnistat.specs.Omnistat.{writeBytes}
 use Rattle.omnistat.specs.Parts.{passed, checkOf}
-use Rattle.omnistat.proofs.Laws.Omnistat.{write-refused, frame-fits, write-misaddressed, write-framed}
+use Rattle.omnistat.proofs.Laws.Omnistat.{write-refused, frame-fits, write-misaddressed, write-summed}
 use Rattle.omnistat.proofs.Laws.Output.{leaves-refused, leaves-same}
-use native.Mathlib.Omega.{arith}
 use Rattle.omnistat.proofs.Laws.Message.{within-both}
 use borrow.Author.Needs.{needs}
 use Rattle.omnistat.proofs.reply.write.Statement.{statement}
@@ -36,20 +36,19 @@ returns : tie.Need-returns
 returns c =
     let a = c .before .before .before .before .before .before .before .args in
     leaves-refused (now (a .out)) (writeBytes Host (a .number) (a .kind) (now (a .payload))) 8
-    (write-misaddressed Host (a .number) (a .kind) (now (a .payload)) (went-on (c .before .before))
-    (sym (c .before .is-number .ensures) ∙ not-true _ (c .if1 .taken)))
+    (write-misaddressed Host (a .number) (a .kind) (now (a .payload)) (went-on (c .before .before)) (sym (c .before .is-number .ensures) ∙ not-true _ (c .if1 .taken)))
+
+length-and-type-requires : tie.Need-length-and-type-requires
+length-and-type-requires c κs =
+    let a = c .before .before .before .before .before .before .before .args in
+    frame-fits Host (a .number) (a .kind) (now (a .payload)) (went-on (c .before .before))
 
 add-write : tie.Need-add-write
 add-write c =
-    omega (
-      arith,
-      within-both 129 255 (c .before .before .before .before .before .before .before .args .number + 128) (sym (c .before .is-number .ensures) ∙ not-false _ (c .if1 .left)) .1,
-    )
+    omega (arith, within-both 129 255 (c .before .before .before .before .before .before .before .before .args .number + 128) (sym (c .before .before .is-number .ensures) ∙ not-false _ (c .before .if1 .left)) .1)
 
 write-requires : tie.Need-write-requires
-write-requires c κs =
-    let a = c .before .before .before .before .before .before .before .before .args in
-    frame-fits Host (a .number) (a .kind) (now (a .payload)) (went-on (c .before .before .before))
+write-requires c κs = search needs
 
 returns-2 : tie.Need-returns-2
 returns-2 c =
@@ -63,10 +62,10 @@ same-length c = search needs
 
 returns-3 : tie.Need-returns-3
 returns-3 c =
-    let a = c .before .before .before .before .before .before .before .before .before .before .before .args in
+    let a = c .before .before .before .before .before .before .before .before .before .before .before .before .args in
     leaves-same (now (a .out)) (writeBytes Host (a .number) (a .kind) (now (a .payload))) _ _ _
-    (write-framed Host (a .number) (a .kind) (now (a .payload)) (went-on (c .before .before .before .before .before .before))
-    (sym (c .before .before .before .before .before .is-number .ensures) ∙ not-false _ (c .before .before .before .before .if1 .left)))
+    (write-summed Host (a .number) (a .kind) (now (a .payload)) (went-on (c .before .before .before .before .before .before .before))
+    (sym (c .before .before .before .before .before .before .is-number .ensures) ∙ not-false _ (c .before .before .before .before .before .if1 .left)) (c .before .before .before .before .length-and-type .result) (c .before .before .before .before .length-and-type .ensures))
     (c .before .before .write .ensures)
 
 pub write-spec : {M : Type 1} → statement M
@@ -78,6 +77,7 @@ write-spec =
     enum-told
     is-number-requires
     returns
+    length-and-type-requires
     add-write
     write-requires
     returns-2

@@ -1,58 +1,60 @@
-use mathlib.Core.Path.{sym, _∙_}
-use mathlib.Core.Bool.{true, false}
-use borrow.Author.Tests.{not-true, not-false}
+use mathlib.Core.Path.{_≡_, sym, ap, _∙_}
+use native.Mathlib.Omega.{arith}
 use denote.Ref.{now}
-use lib.ListN.{getD}
-use Rattle.omnistat.proofs.Laws.Message.{too-low, too-high, inside, poll-length, poll-of}
+use lib.ListN.{length}
+use Rattle.answer.specs.Answer.{accepted, onAccepted, numberOf}
+use Rattle.answer.proofs.Laws.Test.{still-refused}
+use Rattle.omnistat.specs.Message.{asPoll}
+use Rattle.omnistat.specs.Omnistat.{addressed}
+use Rattle.omnistat.specs.Parts.{passed, checkOf}
+use Rattle.omnistat.proofs.Laws.Check.{poll-accepted}
 use borrow.Author.Needs.{needs}
 use Rattle.omnistat.proofs.request.as_poll.Statement.{statement}
 use Rattle.omnistat.proofs.request.as_poll.Tie as tie
 
+-- the data bytes passed their check
+went-on : (c : tie.After-enum-told) → accepted tt ≡ onAccepted passed (asPoll (now (c .before .before .before .before .args .payload)))
+went-on c = ap checkOf (sym (c .enum-told .given .1)) ∙ c .before .before .check-poll .ensures
+
+two : (c : tie.After-enum-told) → length (now (c .before .before .before .before .args .payload)) ≡ 2
+two c = poll-accepted (now (c .before .before .before .before .args .payload)) (went-on c) .0
+
+check-poll-requires : tie.Need-check-poll-requires
+check-poll-requires c κs = search needs
+
+enum-known-r : tie.Need-enum-known-r
+enum-known-r c = search needs
+
+enum-told : tie.Need-enum-told
+enum-told c = search needs
+
+shared-slice-read-t7 : tie.Need-shared-slice-read-t7
+shared-slice-read-t7 c = omega (arith, two (c .before))
+
+shared-slice-read-t9 : tie.Need-shared-slice-read-t9
+shared-slice-read-t9 c = omega (arith, two (c .before .before))
+
 returns : tie.Need-returns
-returns c rest = simp (poll-length (now (c .before .before .args .payload)) (c .if1 .taken))
-
-shared-slice-read-start : tie.Need-shared-slice-read-start
-shared-slice-read-start c = search needs
-
-shared-slice-read-count : tie.Need-shared-slice-read-count
-shared-slice-read-count c = search needs
+returns c rest =
+    let a = c .before .before .before .before .before .args in
+    ap (onAccepted (addressed (a .first)))
+    (sym
+    (still-refused passed (asPoll (now (a .payload))) (numberOf (c .before .r .given .0 .0))
+    (sym (ap checkOf (sym (c .before .r .given .1)) ∙ c .before .before .before .check-poll .ensures))))
 
 returns-2 : tie.Need-returns-2
 returns-2 c rest =
-    let d = now (c .before .before .before .before .before .args .payload) in
-    simp (poll-of d false (c .before .before .before .if1 .left) (simp (too-low 1 14 (getD d 1 0) (c .if2 .taken))))
-
-returns-3 : tie.Need-returns-3
-returns-3 c rest =
-    let d = now (c .before .before .before .before .before .before .args .payload) in
-    simp (poll-of d false (c .before .before .before .before .if1 .left) (simp (too-high 1 14 (getD d 1 0) (c .if3 .taken))))
-
-is-run-requires : tie.Need-is-run-requires
-is-run-requires c κs = search needs
-
-returns-4 : tie.Need-returns-4
-returns-4 c rest =
-    let d = now (c .before .before .before .before .before .before .before .before .args .payload) in
-    simp
-    (poll-of d false (c .before .before .before .before .before .before .if1 .left)
-    (simp (inside 1 14 (getD d 1 0) (c .before .before .before .if2 .left) (c .before .before .if3 .left)) (sym (c .before .is-run .ensures) ∙ not-true _ (c .if4 .taken))))
-
-returns-5 : tie.Need-returns-5
-returns-5 c rest =
-    let d = now (c .before .before .before .before .before .before .before .before .args .payload) in
-    simp
-    (poll-of d true (c .before .before .before .before .before .before .if1 .left)
-    (simp (inside 1 14 (getD d 1 0) (c .before .before .before .if2 .left) (c .before .before .if3 .left)) (sym (c .before .is-run .ensures) ∙ not-false _ (c .if4 .left))))
+    let a = c .before .before .before .before .before .before .args in
+    ap (onAccepted (addressed (a .first))) (poll-accepted (now (a .payload)) (went-on (c .before .before)) .1)
 
 pub as-poll-spec : {M : Type 1} → statement M
 as-poll-spec =
     tie.close
     (tie.spec
+    check-poll-requires
+    enum-known-r
+    enum-told
+    shared-slice-read-t7
+    shared-slice-read-t9
     returns
-    shared-slice-read-start
-    shared-slice-read-count
-    returns-2
-    returns-3
-    is-run-requires
-    returns-4
-    returns-5)
+    returns-2)

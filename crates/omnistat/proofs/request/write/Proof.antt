@@ -6,7 +6,7 @@ use Rattle.omnistat.specs.declared.frame.End.the-variants.{Thermostat}
 use Rattle.omnistat.specs.Message.{asMessage}
 use Rattle.omnistat.specs.Omnistat.{writeBytes}
 use Rattle.omnistat.specs.Parts.{passed, checkOf}
-use Rattle.omnistat.proofs.Laws.Omnistat.{write-refused, frame-fits, write-misaddressed, write-framed}
+use Rattle.omnistat.proofs.Laws.Omnistat.{write-refused, frame-fits, write-misaddressed, write-summed}
 use Rattle.omnistat.proofs.Laws.Output.{leaves-refused, leaves-same}
 use borrow.Author.Needs.{needs}
 use Rattle.omnistat.proofs.request.write.Statement.{statement}
@@ -33,13 +33,15 @@ returns : tie.Need-returns
 returns c =
     let a = c .before .before .before .before .before .before .before .args in
     leaves-refused (now (a .out)) (writeBytes Thermostat (a .address) (a .kind) (now (a .payload))) 8
-    (write-misaddressed Thermostat (a .address) (a .kind) (now (a .payload)) (went-on (c .before .before))
-    (sym (c .before .is-to-thermostat .ensures) ∙ not-true _ (c .if1 .taken)))
+    (write-misaddressed Thermostat (a .address) (a .kind) (now (a .payload)) (went-on (c .before .before)) (sym (c .before .is-to-thermostat .ensures) ∙ not-true _ (c .if1 .taken)))
+
+length-and-type-requires : tie.Need-length-and-type-requires
+length-and-type-requires c κs =
+    let a = c .before .before .before .before .before .before .before .args in
+    frame-fits Thermostat (a .address) (a .kind) (now (a .payload)) (went-on (c .before .before))
 
 write-requires : tie.Need-write-requires
-write-requires c κs =
-    let a = c .before .before .before .before .before .before .before .before .args in
-    frame-fits Thermostat (a .address) (a .kind) (now (a .payload)) (went-on (c .before .before .before))
+write-requires c κs = search needs
 
 returns-2 : tie.Need-returns-2
 returns-2 c =
@@ -53,10 +55,10 @@ same-length c = search needs
 
 returns-3 : tie.Need-returns-3
 returns-3 c =
-    let a = c .before .before .before .before .before .before .before .before .before .before .before .args in
+    let a = c .before .before .before .before .before .before .before .before .before .before .before .before .args in
     leaves-same (now (a .out)) (writeBytes Thermostat (a .address) (a .kind) (now (a .payload))) _ _ _
-    (write-framed Thermostat (a .address) (a .kind) (now (a .payload)) (went-on (c .before .before .before .before .before .before))
-    (sym (c .before .before .before .before .before .is-to-thermostat .ensures) ∙ not-false _ (c .before .before .before .before .if1 .left)))
+    (write-summed Thermostat (a .address) (a .kind) (now (a .payload)) (went-on (c .before .before .before .before .before .before .before))
+    (sym (c .before .before .before .before .before .before .is-to-thermostat .ensures) ∙ not-false _ (c .before .before .before .before .before .if1 .left)) (c .before .before .before .before .length-and-type .result) (c .before .before .before .before .length-and-type .ensures))
     (c .before .before .write .ensures)
 
 pub write-spec : {M : Type 1} → statement M
@@ -68,6 +70,7 @@ write-spec =
     enum-told
     is-to-thermostat-requires
     returns
+    length-and-type-requires
     write-requires
     returns-2
     same-length

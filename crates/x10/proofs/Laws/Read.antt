@@ -1,0 +1,63 @@
+-- A start code and pairs that are read are places, each 0 or 1. Assumes nothing.
+use mathlib.Core.Path.{_≡_, sym, ap, _∙_, subst}
+use mathlib.Core.Bool.{true, _&&_}
+use mathlib.Core.List.{List, [], _∷_}
+use Prim.Native.Nat.{ℕ, zero, suc, _+_, _≤_}
+use native.Mathlib.Omega.{arith}
+use lib.Dec.{eqb, ltb}
+use lib.ListN.{length, getD}
+use lib.Seq.{slice, slice-cons}
+use borrow.Author.Tests.{lt-ltb, eqb-true}
+use Rattle.answer.specs.Answer.{accepted}
+use Rattle.answer.proofs.Laws.Test.{on-accepted}
+use Rattle.x10.specs.Places.{arePlaces, startCode, startsWith, unpaired, number, spelled}
+use Rattle.x10.proofs.Laws.Bits.{and-left, and-right, both, paired-places, unpaired-back}
+
+spelled-places : (ps : List ℕ) (n : ℕ) → spelled ps ≡ accepted n → arePlaces ps ≡ true
+unfolding spelled
+spelled-places ps n e =
+    let p = on-accepted number (unpaired ps) n e in
+    let q = unpaired-back ps (p .0) (p .1) in
+    ap arePlaces (q .0) ∙ paired-places (p .0) (q .1)
+
+start-places : (l : List ℕ) → 4 ≤ length l → startsWith startCode l ≡ true → arePlaces (slice 0 4 l) ≡ true
+start-places [] h e = absurd (omega arith)
+start-places (a ∷ []) h e = absurd (omega arith)
+start-places (a ∷ b ∷ []) h e = absurd (omega arith)
+start-places (a ∷ b ∷ c ∷ []) h e = absurd (omega arith)
+start-places (a ∷ b ∷ c ∷ d ∷ l) h e =
+    let e1 = and-right (eqb a 1) (eqb b 1 && (eqb c 1 && (eqb d 0 && true))) e in
+    let e2 = and-right (eqb b 1) (eqb c 1 && (eqb d 0 && true)) e1 in
+    let e3 = and-right (eqb c 1) (eqb d 0 && true) e2 in
+    let ea : a ≡ 1 = eqb-true a 1 (and-left (eqb a 1) _ e) in
+    let eb : b ≡ 1 = eqb-true b 1 (and-left (eqb b 1) _ e1) in
+    let ec : c ≡ 1 = eqb-true c 1 (and-left (eqb c 1) _ e2) in
+    let ed : d ≡ 0 = eqb-true d 0 (and-left (eqb d 0) _ e3) in
+    simp (lt-ltb a 2 (omega arith), lt-ltb b 2 (omega arith), lt-ltb c 2 (omega arith), lt-ltb d 2 (omega arith))
+
+-- one part after another
+joined : (l : List ℕ) (f d t : ℕ) → f + d ≤ t → t ≤ length l → arePlaces (slice f (f + d) l) ≡ true → arePlaces (slice (f + d) t l) ≡ true
+    → arePlaces (slice f t l) ≡ true
+joined l f zero t h k a b = let e : f + 0 ≡ f = omega arith in subst (λ (n : ℕ). arePlaces (slice n t l) ≡ true) e b
+joined l f (suc d) t h k a b =
+    let x = getD l f 0 in
+    let n : f + suc d ≡ suc f + d = omega arith in
+    let first = sym (ap arePlaces (slice-cons f (f + suc d) l 0 (omega arith) (omega arith))) ∙ a in
+    let later = joined l (suc f) d t (omega arith) k
+    (subst (λ (m : ℕ). arePlaces (slice (suc f) m l) ≡ true) n (and-right (ltb x 2) _ first))
+    (subst (λ (m : ℕ). arePlaces (slice m t l) ≡ true) n b) in
+    ap arePlaces (slice-cons f t l 0 (omega arith) k) ∙ both (ltb x 2) (arePlaces (slice (suc f) t l)) (and-left (ltb x 2) _ first) later
+
+module _ (l : List ℕ) where
+  pub read-places : 22 ≤ length l → startsWith startCode l ≡ true → (h : ℕ) → spelled (slice 4 12 l) ≡ accepted h → (k : ℕ) → spelled (slice 12 20 l) ≡ accepted k
+      → (d : ℕ) → spelled (slice 20 22 l) ≡ accepted d → arePlaces (slice 0 22 l) ≡ true
+  read-places n s h eh k ek d ed =
+      joined l 0 4 22 (omega arith) n (start-places l (omega arith) s)
+      (joined l 4 8 22 (omega arith) n (spelled-places (slice 4 12 l) h eh)
+      (joined l 12 8 22 (omega arith) n (spelled-places (slice 12 20 l) k ek) (spelled-places (slice 20 22 l) d ed)))
+
+  pub rest-places : 62 ≤ length l → (k : ℕ) → spelled (slice 22 30 l) ≡ accepted k → (d : ℕ) → spelled (slice 30 46 l) ≡ accepted d → (c : ℕ)
+      → spelled (slice 46 62 l) ≡ accepted c → arePlaces (slice 22 62 l) ≡ true
+  rest-places n k ek d ed c ec =
+      joined l 22 8 62 (omega arith) n (spelled-places (slice 22 30 l) k ek)
+      (joined l 30 16 62 (omega arith) n (spelled-places (slice 30 46 l) d ed) (spelled-places (slice 46 62 l) c ec))
