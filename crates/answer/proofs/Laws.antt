@@ -1,3 +1,4 @@
+-- The laws, a file for each subject.
 pub mod Decided
 pub mod Output
 pub mod Packed

@@ -1,3 +1,4 @@
+-- The laws, a file for each subject.
 pub mod Bytes
 pub mod Distance
 pub mod First

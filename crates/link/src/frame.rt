@@ -1,3 +1,4 @@
+// Frames: the reader, the frame that starts a byte string, a frame's data bytes, and the writer.
 use answer::Refusal;
 use answer::Written;
 ghost use mathlib.Core.Path.{_≡_};

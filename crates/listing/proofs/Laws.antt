@@ -1,3 +1,4 @@
+-- The laws, a file for each subject.
 pub mod Answers
 pub mod Faithful
 pub mod Found

@@ -1,1 +1,2 @@
+-- Laws on the definitions of the listing.
 pub mod Laws

@@ -1,3 +1,4 @@
+-- The laws, a file for each subject.
 pub mod Accepts
 pub mod Checked
 pub mod Decode

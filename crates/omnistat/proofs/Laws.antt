@@ -1,3 +1,4 @@
+-- The laws, a file for each subject.
 pub mod Check
 pub mod Frame
 pub mod Group

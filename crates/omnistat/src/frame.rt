@@ -23,7 +23,7 @@ pub enum End {
 }
 
 // A whole message: its first byte, its type and the count of its data bytes, which start at the third byte.
-pub enum Framed {
+pub(crate) enum Framed {
     Refused(Refusal),
     Whole { first: u8, kind: u8, count: u8 },
 }

@@ -10,7 +10,7 @@ pub enum Group {
 }
 
 // The group that the type of a message names, if it names one.
-pub enum Named {
+pub(crate) enum Named {
     Of(Group),
     Unknown,
 }

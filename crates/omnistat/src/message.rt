@@ -20,7 +20,7 @@ const FIRST_TEXT: u16 = 172;
 const LAST_TEXT: u8 = 181;
 
 // A start register and the count of the values that follow it.
-pub enum Run {
+pub(crate) enum Run {
     Refused(Refusal),
     Registers { start: u8, count: u8 },
 }
@@ -40,7 +40,7 @@ pub(crate) fn is_run(start: u8, count: u8) -> bool
 }
 
 // Whether a type and its data bytes are a message's.
-pub enum Check {
+pub(crate) enum Check {
     Refused(Refusal),
     Passed,
 }

@@ -1,3 +1,4 @@
+-- The laws, a file for each subject.
 pub mod Cost
 pub mod Total
 pub mod Run

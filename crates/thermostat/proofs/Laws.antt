@@ -1,3 +1,4 @@
+-- The laws, a file for each subject.
 pub mod Fahrenheit
 pub mod Float
 pub mod Map

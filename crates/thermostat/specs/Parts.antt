@@ -1,20 +1,17 @@
 -- What the functions behind the step promise one another.
 use Prim.Native.Nat.{ℕ, _<_}
 use mathlib.Core.Path.{_≡_}
-use mathlib.Core.Bool.{Bool, true, false, not, _&&_}
+use mathlib.Core.Bool.{Bool, not, _&&_}
 use mathlib.Core.List.{List, [], _∷_}
 use lib.ListN.{getD}
+use Rattle.answer.specs.Bit.{bit}
 use Rattle.thermostat.specs.Registers.{Range, inAny, listed, readOnly, allowed}
 
 -- a register takes a byte
 abbrev pub takes : ℕ → ℕ → Bool
 takes r v = inAny (allowed r) v
 
--- what is stated of each register number, as a byte: 1 for yes; the least and the greatest byte that it takes
-abbrev pub flag : Bool → ℕ
-flag true = 1
-flag false = 0
-
+-- the least and the greatest byte of some ranges
 abbrev pub lowest : List Range → ℕ
 lowest [] = 0
 lowest (r ∷ rs) = r .low
@@ -24,11 +21,12 @@ highest [] = 0
 highest (r ∷ []) = r .high
 highest (r ∷ s ∷ rs) = highest (s ∷ rs)
 
+-- what is stated of each register number, as a byte: 1 for yes; the least and the greatest byte that it takes
 abbrev pub listedFlag : ℕ → ℕ
-listedFlag r = flag (listed r)
+listedFlag r = bit (listed r)
 
 abbrev pub writableFlag : ℕ → ℕ
-writableFlag r = flag (listed r && not (readOnly r))
+writableFlag r = bit (listed r && not (readOnly r))
 
 abbrev pub lowOf : ℕ → ℕ
 lowOf r = lowest (allowed r)

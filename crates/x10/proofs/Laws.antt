@@ -1,3 +1,4 @@
+-- The laws, a file for each subject.
 pub mod Bits
 pub mod Codes
 pub mod Pairs

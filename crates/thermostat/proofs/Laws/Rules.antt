@@ -9,14 +9,15 @@ use lib.ListN.{length, getD}
 use borrow.Author.Tests.{eqb-true, eqb-false, leb-true, leb-false, le-leb, lt-leb, ne-eqb}
 use Rattle.omnistat.specs.Register.{within}
 use Rattle.thermostat.specs.Registers.{Range, inAny, listed, readOnly, allowed, settable}
-use Rattle.thermostat.specs.Parts.{takes, flag, lowest, highest, writableFlag, lowOf, highOf, States}
+use Rattle.answer.specs.Bit.{bit}
+use Rattle.thermostat.specs.Parts.{takes, lowest, highest, writableFlag, lowOf, highOf, States}
 use Rattle.answer.proofs.Laws.Table.{every, at, below, holds, both-left, both-right}
 
 -- the computed test: each entry is what is stated of its place
 abbrev pub stated : (ℕ → ℕ) → List ℕ → Bool
 stated f bytes = eqb (length bytes) 256 && every (λ r x. eqb x (f r)) 0 bytes
 
-pub flag-set : (b : Bool) → eqb (flag b) 1 ≡ b
+pub flag-set : (b : Bool) → eqb (bit b) 1 ≡ b
 flag-set true = refl
 flag-set false = refl
 
@@ -83,11 +84,11 @@ unfolding allowed
 bauds v = simp (only-one)
 
 -- what a byte of the table of writable registers decides
-flag-one : (b : Bool) → flag b ≡ 1 → b ≡ true
+flag-one : (b : Bool) → bit b ≡ 1 → b ≡ true
 flag-one true e = refl
 flag-one false e = absurd (omega arith)
 
-flag-other : (b : Bool) → (flag b ≡ 1 → ⊥) → b ≡ false
+flag-other : (b : Bool) → (bit b ≡ 1 → ⊥) → b ≡ false
 flag-other true e = absurd (e refl)
 flag-other false e = refl
 
