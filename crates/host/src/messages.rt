@@ -1,7 +1,4 @@
 // Omni-Link messages, for C.
-use message::command::Command;
-use message::command::CommandRead;
-use message::command::Duration;
 use message::item::TextRead;
 use message::item::WordRead;
 use message::item::ZoneRead;
@@ -15,12 +12,11 @@ ghost use mathlib.Core.List.{[], _∷_};
 ghost use lib.ListN.{length};
 ghost use Rattle.answer.specs.Answer.{accepted, onAccepted, inRoom, outAfter};
 ghost use Rattle.answer.specs.Bit.{bit};
-ghost use Rattle.answer.specs.Packed.{packed, byte, word};
-ghost use Rattle.message.specs.Command.{commandRead};
+ghost use Rattle.answer.specs.Packed.{packed, word};
 ghost use Rattle.message.specs.Item.{zoneItem, eventItem, textItem, logItem, commandItem, zoneRead, wordRead, textRead};
 ghost use Rattle.message.specs.Message.{counted, readMessage, writeMessage};
-ghost use Rattle.message.specs.Typed.{messageFields, conditionBits, latchedBits, armingBits};
-ghost use Rattle.host.specs.Messages.{zoneFields, wordFields, textFields, durationUnit, durationCount, commandFields};
+ghost use Rattle.message.specs.Typed.{conditionBits, latchedBits, armingBits};
+ghost use Rattle.message.specs.Fields.{messageFields, zoneFields, wordFields, textFields, commandFields};
 
 // A truth value as a number.
 fn bit(b: bool) -> u8
@@ -111,59 +107,6 @@ fn pack_text(r: TextRead) -> u64
     }
 }
 
-fn duration_unit(d: Duration) -> u8
-    ensures { λ n. ⌜ n ≡ durationUnit d ⌝ }
-{
-    match d {
-        Duration::None => 0,
-        Duration::Seconds(_) => 1,
-        Duration::Minutes(_) => 2,
-        Duration::Hours(_) => 3,
-    }
-}
-
-fn duration_count(d: Duration) -> u8
-    ensures { λ n. ⌜ n ≡ durationCount d ⌝ }
-{
-    match d {
-        Duration::None => 0,
-        Duration::Seconds(n) => n,
-        Duration::Minutes(n) => n,
-        Duration::Hours(n) => n,
-    }
-}
-
-// A packed command that carries a duration.
-fn packed_timed(number: u8, d: Duration, unit: u16) -> u64
-    ensures { λ n. ⌜ n ≡ packed (accepted (byte number ∷ byte (durationUnit d) ∷ byte (durationCount d) ∷ word unit ∷ [])) ⌝ }
-{
-    answer::pack_3_bytes_word(number, duration_unit(d), duration_count(d), unit)
-}
-
-fn packed_command(c: Command) -> u64
-    ensures { λ n. ⌜ n ≡ packed (accepted (commandFields c)) ⌝ }
-{
-    match c {
-        Command::Off { duration, unit } => packed_timed(0, duration, unit),
-        Command::On { duration, unit } => packed_timed(1, duration, unit),
-        Command::AllOff { area } => answer::pack_3_bytes_word(2, 0, 0, area),
-        Command::AllOn { area } => answer::pack_3_bytes_word(3, 0, 0, area),
-        Command::Level { percent, unit } => answer::pack_3_bytes_word(9, 0, percent, unit),
-        Command::Decrement { counter } => answer::pack_3_bytes_word(10, 0, 0, counter),
-        Command::Increment { counter } => answer::pack_3_bytes_word(11, 0, 0, counter),
-        Command::SetCounter { value, counter } => answer::pack_3_bytes_word(12, 0, value, counter),
-    }
-}
-
-fn pack_command(r: CommandRead) -> u64
-    ensures { λ n. ⌜ n ≡ packed (onAccepted commandFields (commandRead r)) ⌝ }
-{
-    match r {
-        CommandRead::Accepted(c) => packed_command(c),
-        CommandRead::Refused(e) => answer::pack_refusal(e),
-    }
-}
-
 // Type (8), count of items (8).
 #[no_mangle]
 pub extern "C" fn omnilink_message_read(bytes: &[u8]) -> u64
@@ -210,7 +153,7 @@ pub extern "C" fn omnilink_text_message(bytes: &[u8], i: usize) -> u64
 pub extern "C" fn omnilink_command(bytes: &[u8]) -> u64
     ensures { λ n. ⌜ n ≡ packed (onAccepted commandFields (commandItem (now (bytes .entry)))) ⌝ }
 {
-    pack_command(message::item::command(bytes))
+    message::item::command_packed(bytes)
 }
 
 // The field (16) of a log entry, 0 to 8.

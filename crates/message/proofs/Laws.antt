@@ -11,4 +11,5 @@ pub mod Item
 pub mod Kinds
 pub mod Listed
 pub mod Lists
+pub mod Packed
 pub mod RoundTrip

@@ -1,7 +1,8 @@
 -- What the functions behind the reader and the writers promise one another.
 use Prim.Native.Nat.{ℕ, _-_, _/_, _%_}
-use mathlib.Core.Bool.{cond, not}
+use mathlib.Core.Bool.{Bool, true, false, cond, not}
 use mathlib.Core.List.{List, _++_}
+use mathlib.Core.Path.{_≡_}
 use lib.Dec.{eqb}
 use lib.ListN.{length, replicate}
 use Rattle.answer.specs.Answer.{Outcome, refused, accepted, refuseIf}
@@ -13,12 +14,28 @@ use Rattle.message.specs.declared.typed.Encoded.{Encoded}
 abbrev pub headerOf : ℕ → ℕ → ℕ → Outcome Header
 headerOf wanted kind count = refuseIf (not (eqb kind wanted)) 8 (accepted (record { kind = kind; count = count }))
 
+-- something is accepted
+abbrev pub Taken : {A : Type 0} → Outcome A → Type 0
+Taken {A} o = (a : A) × (o ≡ accepted a)
+
 -- the number of a refusal, or 0 where something is accepted
 abbrev pub faultOf : {A : Type 0} → Outcome A → ℕ
 faultOf (refused n) = n
 faultOf (accepted a) = 0
 
--- that of data bytes behind a type without data
+-- a type without data
+abbrev pub isPlain : ℕ → Bool
+isPlain kind =
+    cond (eqb kind 0x05) true
+    (cond (eqb kind 0x06) true
+    (cond (eqb kind 0x0D) true
+    (cond (eqb kind 0x11) true
+    (cond (eqb kind 0x13) true
+    (cond (eqb kind 0x21) true
+    (cond (eqb kind 0x22) true
+    false))))))
+
+-- the fault of data bytes behind a type without data
 abbrev pub plainFault : List ℕ → ℕ
 plainFault d = cond (eqb (length d) 0) 0 7
 

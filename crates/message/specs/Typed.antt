@@ -6,7 +6,6 @@ use lib.Dec.{eqb, leb}
 use lib.ListN.{length, drop}
 use Rattle.answer.specs.Answer.{Outcome, refuseIf}
 use Rattle.answer.specs.Bit.{bit}
-use Rattle.answer.specs.Packed.{Field, byte}
 use Rattle.link.specs.Frame.{Frame}
 use Rattle.message.specs.Lists.{zoneStatusType, eventsType, messageStatusType, zones, words, texts}
 use Rattle.message.specs.Message.{Message, fixed, zoneStatus, events, messageStatus, counted, writeMessage}
@@ -131,10 +130,6 @@ countOf (C.Fixed f) = 0
 countOf (C.ZoneStatus n) = n
 countOf (C.Events n) = n
 countOf (C.MessageStatus n) = n
-
--- for C: type (8), count of items (8), which is 0 but for zones, events and text messages
-abbrev pub messageFields : Counted → List Field
-messageFields m = byte (kindOf m) ∷ byte (countOf m) ∷ []
 
 -- writing a list's message by its data bytes: 7 where they are not as many as its items need
 unfoldable pub writeItems : ℕ → ℕ → List ℕ → Outcome (List ℕ)

@@ -9,7 +9,7 @@ ghost use Rattle.answer.specs.Answer.{numberOf};
 ghost use Rattle.message.specs.Command.{readCommand};
 ghost use Rattle.message.specs.Log.{readLog};
 ghost use Rattle.message.specs.Message.{readLogin, readZoneRequest, readZoneStatus, readEvents, readMessageStatus, withData, messageOf};
-ghost use Rattle.message.specs.Parts.{faultOf, plainFault, faultNumber, textsIn, itemsIn};
+ghost use Rattle.message.specs.Parts.{faultOf, isPlain, plainFault, faultNumber, textsIn, itemsIn};
 
 // No fault.
 pub(crate) const NONE: u8 = 0;
@@ -143,29 +143,39 @@ fn with_data(kind: u8, data: &[u8]) -> u8
     6
 }
 
-// The number of the refusal that a type and data bytes have, or none.
+fn is_plain(kind: u8) -> bool
+    ensures { λ r. ⌜ r ≡ isPlain kind ⌝ }
+{
+    if kind == 0x05 {
+        return true;
+    }
+    if kind == 0x06 {
+        return true;
+    }
+    if kind == 0x0D {
+        return true;
+    }
+    if kind == 0x11 {
+        return true;
+    }
+    if kind == 0x13 {
+        return true;
+    }
+    if kind == 0x21 {
+        return true;
+    }
+    if kind == 0x22 {
+        return true;
+    }
+    false
+}
+
+// The number of the refusal that a type and data bytes have, or none. Small, so that the compiler puts it into its callers: a message
+// without data is then checked with no call.
 pub(crate) fn fault(kind: u8, data: &[u8]) -> u8
     ensures { λ r. ⌜ r ≡ faultOf (messageOf kind (now («data» .entry))) ⌝ }
 {
-    if kind == 0x05 {
-        return plain(data);
-    }
-    if kind == 0x06 {
-        return plain(data);
-    }
-    if kind == 0x0D {
-        return plain(data);
-    }
-    if kind == 0x11 {
-        return plain(data);
-    }
-    if kind == 0x13 {
-        return plain(data);
-    }
-    if kind == 0x21 {
-        return plain(data);
-    }
-    if kind == 0x22 {
+    if is_plain(kind) {
         return plain(data);
     }
     with_data(kind, data)

@@ -9,14 +9,18 @@ use crate::log::LogRead;
 use answer::Refusal;
 use link::frame::FrameRead;
 ghost use mathlib.Core.Path.{_≡_};
+ghost use Prim.Native.Nat.{_<_};
 ghost use lib.ListN.{drop};
-ghost use Rattle.answer.specs.Answer.{andThen, onAccepted};
+ghost use mathlib.Core.Bool.{true};
+ghost use Rattle.answer.specs.Answer.{accepted, andThen, onAccepted};
+ghost use Rattle.answer.specs.Packed.{packed};
 ghost use Rattle.link.specs.Frame.{header, outcomeOf};
-ghost use Rattle.message.specs.Command.{commandRead};
+ghost use Rattle.message.specs.Command.{durationOf, commandListed, commandOf, readCommand, commandRead};
+ghost use Rattle.message.specs.Fields.{durationUnit, commandFields};
 ghost use Rattle.message.specs.Lists.{zones, words, texts};
 ghost use Rattle.message.specs.Log.{readLog};
 ghost use Rattle.message.specs.Message.{messageOf};
-ghost use Rattle.message.specs.Parts.{headerOf, twoBits};
+ghost use Rattle.message.specs.Parts.{headerOf, twoBits, Taken};
 ghost use Rattle.message.specs.Item.{frameOf, itemAt, zoneItem, eventItem, textItem, logFields, logItem, commandItem, zoneRead, wordRead, textRead};
 
 pub enum ZoneRead {
@@ -56,18 +60,10 @@ fn event_at(data: &[u8], i: usize) -> WordRead
 
 // The two bits of message k of the four in a byte, the lowest-numbered in the high bits.
 fn two_bits(b: u8, k: u8) -> u8
+    requires { ⌜ k < 4 ⌝ }
     ensures { λ r. ⌜ r ≡ twoBits b k ⌝ }
 {
-    if k == 0 {
-        return b / 64;
-    }
-    if k == 1 {
-        return b / 16 % 4;
-    }
-    if k == 2 {
-        return b / 4 % 4;
-    }
-    b % 4
+    (b >> (6 - 2 * k)) % 4
 }
 
 // Text message i of the data bytes of a message status; past the last is 8.
@@ -198,5 +194,44 @@ pub fn command(bytes: &[u8]) -> CommandRead
             count,
         )),
         FrameRead::Refused(r) => CommandRead::Refused(r),
+    }
+}
+
+// The unit of the duration that P1 stands for: 0 none, 1 seconds, 2 minutes, 3 hours.
+fn unit_of(p1: u8) -> u8
+    ensures { λ r. ⌜ r ≡ durationUnit (durationOf p1) ⌝ }
+{
+    if p1 == 0 {
+        return 0;
+    }
+    p1 / 100 + 1
+}
+
+// What is packed of a listed command number and its parameters.
+fn packed_parameters(number: u8, p1: u8, p2: u16) -> u64
+    requires { ⌜ commandListed number p1 p2 ≡ true ⌝ }
+    ensures { λ r. ⌜ r ≡ packed (accepted (commandFields (commandOf number p1 p2))) ⌝ }
+{
+    if number < 2 {
+        return answer::pack_3_bytes_word(number, unit_of(p1), p1 % 100, p2);
+    }
+    answer::pack_3_bytes_word(number, 0, p1, p2)
+}
+
+// What is packed of data bytes that carry a command.
+fn packed_command(data: &[u8]) -> u64
+    requires { ⌜ Taken (readCommand (now «data»)) ⌝ }
+    ensures { λ r. ⌜ r ≡ packed (onAccepted commandFields (readCommand (now («data» .entry)))) ⌝ }
+{
+    packed_parameters(data[0], data[1], lists::word(data[2], data[3]))
+}
+
+// The command of a command message, packed for C: command, unit of duration, count, P2.
+pub fn command_packed(bytes: &[u8]) -> u64
+    ensures { λ r. ⌜ r ≡ packed (onAccepted commandFields (commandItem (now (bytes .entry)))) ⌝ }
+{
+    match header_of(bytes, 0x0F) {
+        FrameRead::Accepted { kind: _, count } => packed_command(link::frame::data(bytes, count)),
+        FrameRead::Refused(r) => answer::pack_refusal(r),
     }
 }

@@ -19,7 +19,7 @@ ghost use Rattle.message.specs.Command.{readCommand};
 ghost use Rattle.message.specs.Lists.{zonesListed};
 ghost use Rattle.message.specs.Log.{readLog};
 ghost use Rattle.message.specs.Message.{digitsListed, orderListed, statusLength, readPlain, readLogin, readZoneRequest, readZoneStatus, readEvents, readMessageStatus, withData, messageOf, readMessage, writeMessage, counted, messageRead};
-ghost use Rattle.message.specs.Typed.{messageFields};
+ghost use Rattle.message.specs.Fields.{messageFields};
 
 // The messages of fixed length: those without data (05, 06, 0D, 11, 13, 21, 22), 20, 15, 0E and 0F.
 pub enum Fixed {

@@ -60,6 +60,23 @@ branch : {G : Type 0} (t a b : Bool) → (t ≡ true → a ≡ true → G) → (
 branch true a b then′ other h = then′ refl h
 branch false a b then′ other h = other h
 
+-- what holds of every listed command number holds of a number that is listed
+module _ (p1 p2 : ℕ) (P : ℕ → Type 0) where
+  at : (number k : ℕ) → eqb number k ≡ true → P k → P number
+  at number k e h = subst P (sym (eqb-true number k e)) h
+
+  pub command-cases : ((n : ℕ) → n < 2 → durationListed p1 ≡ true → P n) → (p1 ≡ 0 → P 2) → (p1 ≡ 0 → P 3) → P 9 → (p1 ≡ 0 → P 10) → (p1 ≡ 0 → P 11)
+      → P 12 → (number : ℕ) → commandListed number p1 p2 ≡ true → P number
+  unfolding commandListed
+  command-cases timed two three nine ten eleven twelve number listed =
+      branch (eqb number 2) _ _ (λ e h. at number 2 e (two (eqb-true p1 0 h)))
+      (branch (eqb number 3) _ _ (λ e h. at number 3 e (three (eqb-true p1 0 h)))
+      (λ l. branch (ltb number 2) _ _ (λ e h. timed number (ltb-true number 2 e) h)
+      (branch (eqb number 9) _ _ (λ e h. at number 9 e nine)
+      (branch (eqb number 10) _ _ (λ e h. at number 10 e (ten (eqb-true p1 0 h)))
+      (branch (eqb number 11) _ _ (λ e h. at number 11 e (eleven (eqb-true p1 0 h)))
+      (λ e. at number 12 e twelve)))) (both {a = leb 1 p2} l .1))) listed
+
 module _ (p1 p2 : ℕ) where
   abbrev Same : ℕ → Type 0
   Same number = commandBytes (commandOf number p1 p2) ≡ parameters number p1 p2
@@ -72,22 +89,12 @@ module _ (p1 p2 : ℕ) where
   timed (suc (suc n)) h l = let z : ⊥ = omega arith in absurd z
 
   -- a command of P1 0
-  blank : (number : ℕ) → commandBytes (commandOf number 0 p2) ≡ parameters number 0 p2 → eqb p1 0 ≡ true → Same number
-  blank number h e = subst (λ (p : ℕ). commandBytes (commandOf number p p2) ≡ parameters number p p2) (sym (eqb-true p1 0 e)) h
-
-  at : (number k : ℕ) → eqb number k ≡ true → Same k → Same number
-  at number k e h = subst Same (sym (eqb-true number k e)) h
+  blank : (number : ℕ) → commandBytes (commandOf number 0 p2) ≡ parameters number 0 p2 → p1 ≡ 0 → Same number
+  blank number h e = subst (λ (p : ℕ). commandBytes (commandOf number p p2) ≡ parameters number p p2) (sym e) h
 
   pub command-encoded : (number : ℕ) → commandListed number p1 p2 ≡ true → commandBytes (commandOf number p1 p2) ≡ parameters number p1 p2
-  unfolding commandListed commandOf
-  command-encoded number listed =
-      branch (eqb number 2) _ _ (λ e h. at number 2 e (blank 2 refl h))
-      (branch (eqb number 3) _ _ (λ e h. at number 3 e (blank 3 refl h))
-      (λ l. branch (ltb number 2) _ _ (λ e h. timed number (ltb-true number 2 e) h)
-      (branch (eqb number 9) _ _ (λ e h. at number 9 e refl)
-      (branch (eqb number 10) _ _ (λ e h. at number 10 e (blank 10 refl h))
-      (branch (eqb number 11) _ _ (λ e h. at number 11 e (blank 11 refl h))
-      (λ e. at number 12 e refl)))) (both {a = leb 1 p2} l .1))) listed
+  unfolding commandOf
+  command-encoded = command-cases p1 p2 Same timed (blank 2 refl) (blank 3 refl) refl (blank 10 refl) (blank 11 refl) refl
 
 -- ---- a word in two bytes
 

@@ -15,7 +15,8 @@ use Rattle.message.specs.Lists.{zoneStatusType, eventsType, messageStatu
 use Rattle.message.specs.Log.{logListed, logOf, readLog}
 use Rattle.message.specs.Message.{Message, fixed, zoneStatus, events, messageStatus, digitsListed, orderListed, statusLength, readPlain, readLogin, readZoneRequest, readZoneStatus, readEvents, readMessageStatus, withData, messageOf, counted}
 use Rattle.message.specs.Parts.{faultOf, faultNumber, textsIn, itemsIn}
-use Rattle.message.specs.Typed.{fixedFrame, countOf, messageFields}
+use Rattle.message.specs.Fields.{messageFields}
+use Rattle.message.specs.Typed.{fixedFrame, countOf}
 use Rattle.message.specs.declared.message.Fixed.{Fixed}
 use Rattle.message.specs.declared.message.Fixed.the-variants as F
 use Rattle.message.proofs.Laws.Accepts.{every-type, every-plain, every-login, every-request, every-zones, every-events, every-texts, every-log, every-command}

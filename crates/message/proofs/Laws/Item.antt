@@ -1,13 +1,16 @@
 -- Items of a whole message, by its header and the part of the caller's slice that holds its data bytes. Assumes nothing.
-use mathlib.Core.Path.{_≡_, refl, sym, ap, _∙_}
+use mathlib.Core.Path.{_≡_, refl, sym, ap, ap₂, _∙_}
 use mathlib.Core.Bool.{not}
 use mathlib.Core.List.{List}
 use Prim.Native.Nat.{ℕ}
 use lib.Dec.{eqb}
+use lib.ListN.{length}
+use borrow.Author.Tests.{eqb-true}
 use Rattle.answer.specs.Answer.{Outcome, refused, accepted, refuseIf, andThen, onAccepted, numberOf}
-use Rattle.answer.proofs.Laws.Test.{passed, not-accepted}
+use Rattle.answer.proofs.Laws.Test.{same, passed, passed-not, then-accepted, not-accepted}
 use Rattle.answer.specs.declared.Refusal.{Refusal}
 use Rattle.link.specs.Frame.{Frame, Header, header, readFrame, outcomeOf, dataPart}
+use Rattle.link.proofs.Laws.Whole.{data-part}
 use Rattle.link.specs.declared.frame.FrameRead.{FrameRead}
 use Rattle.link.specs.declared.frame.FrameRead.the-variants.{Accepted, Refused}
 use Rattle.message.specs.Message.{Message, messageOf, readMessage}
@@ -73,3 +76,22 @@ module _ {A : Type 0} (wanted : ℕ) (look : List ℕ → Outcome A) (s : List �
   pub item-refused : (x : Refusal) → r ≡ Refused x → refused (numberOf x) ≡ itemOf wanted look s
   unfolding itemOf
   item-refused x is = sym (unframed (frameOf wanted s) (numberOf x) _ (sym (ap outcomeOf is) ∙ headed))
+
+  -- an accepted header is that of a message of that type, in the data part
+  pub item-carried : (k n : ℕ) → r ≡ Accepted k n → (m : Message) × (messageOf wanted (dataPart s n) ≡ accepted m)
+  unfolding frameOf readMessage
+  item-carried k n is =
+      let w = was-accepted header (frameOf wanted s) (record { kind = k; count = n }) (sym (ap outcomeOf is) ∙ headed) in
+      let m = then-accepted (readMessage s) (λ x. andThen (readFrame s) (ofKind wanted)) (w .0) (w .1) in
+      let g = then-accepted (readFrame s) (ofKind wanted) (w .0) (m .2) in
+      let q = passed-not (eqb (g .0 .kind) wanted) 8 (accepted (g .0)) (w .0) (g .2) in
+      let kind : g .0 .kind ≡ wanted = eqb-true (g .0 .kind) wanted (q .0) in
+      let read : readFrame s ≡ accepted (w .0) = g .1 ∙ q .1 in
+      let count : n ≡ length (w .0 .bytes) = ap (λ (h : Header). h .count) (w .2) in
+      let part : dataPart s n ≡ g .0 .bytes
+      = ap (dataPart s) count ∙ data-part s (w .0) read ∙ ap (λ (f : Frame). f .bytes) (sym (same (q .1))) in (
+        m .0,
+        ap₂ messageOf (sym kind) part
+            ∙ sym (ap (λ (o : Outcome Frame). andThen o (λ f. messageOf (f .kind) (f .bytes))) (g .1))
+            ∙ m .1,
+      )

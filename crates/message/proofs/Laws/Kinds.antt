@@ -7,11 +7,12 @@ use native.Mathlib.Omega.{arith}
 use lib.Dec.{eqb}
 use lib.ListN.{length, getD, drop, length-drop}
 use borrow.Author.Tests.{eq-eqb, ne-eqb, le-ltb}
-use Rattle.answer.specs.Answer.{refused, accepted, refuseIf, onAccepted}
+use Rattle.answer.specs.Answer.{Outcome, refused, accepted, refuseIf, onAccepted}
 use Rattle.message.specs.Lists.{zoneOf, zones, zonesListed, texts}
-use Rattle.message.specs.Message.{fixed, zoneStatus, messageStatus, statusLength, readPlain, readZoneStatus, readMessageStatus, withData, messageOf, counted}
-use Rattle.message.specs.Parts.{faultOf, plainFault}
+use Rattle.message.specs.Message.{Message, fixed, zoneStatus, messageStatus, statusLength, readPlain, readZoneStatus, readMessageStatus, withData, messageOf, counted}
+use Rattle.message.specs.Parts.{faultOf, isPlain, plainFault}
 use Rattle.message.specs.declared.message.Fixed.{Fixed}
+use Rattle.message.specs.declared.message.Fixed.the-variants as F
 use Rattle.message.specs.declared.message.Message.the-variants as C
 use Rattle.message.proofs.Laws.Checked.{refuses, passes, behind-check, never}
 use Rattle.message.proofs.Laws.Lists.{pairs-length, texts-length}
@@ -74,14 +75,39 @@ status-read d n count e listed four =
     ∙ sym (behind-check counted t 8 (accepted (messageStatus (texts (drop 1 d)))))
     ∙ ap (onAccepted counted) (passes 7 (refuseIf t 8 (accepted (messageStatus (texts (drop 1 d))))) refl (ap statusLength e ∙ listed))
 
--- a type without data
-pub plain-fault : (f : Fixed) (d : List ℕ) → plainFault d ≡ faultOf (readPlain f d)
-unfolding readPlain
-plain-fault f d = by (eqb (length d) 0)
-  where
-    by : (t : Bool) → cond t 0 7 ≡ faultOf (refuseIf (not t) 7 (accepted (fixed f)))
-    by true = refl
-    by false = refl
+-- the types without data, and all others
+module _ (kind : ℕ) (d : List ℕ) where
+  plain-fault : (f : Fixed) → plainFault d ≡ faultOf (readPlain f d)
+  unfolding readPlain
+  plain-fault f = by (eqb (length d) 0)
+    where
+      by : (t : Bool) → cond t 0 7 ≡ faultOf (refuseIf (not t) 7 (accepted (fixed f)))
+      by true = refl
+      by false = refl
+
+  is-plain : (f : Fixed) (t rest : Bool) (later : Outcome Message) → (rest ≡ true → plainFault d ≡ faultOf later)
+      → cond t true rest ≡ true → plainFault d ≡ faultOf (cond t (readPlain f d) later)
+  is-plain f true rest later k e = plain-fault f
+  is-plain f false rest later k e = k e
+
+  is-other : (f : Fixed) (t rest : Bool) (later : Outcome Message) → (rest ≡ false → later ≡ withData kind d)
+      → cond t true rest ≡ false → cond t (readPlain f d) later ≡ withData kind d
+  is-other f true rest later k e = never (sym e)
+  is-other f false rest later k e = k e
+
+  pub plain-type : isPlain kind ≡ true → plainFault d ≡ faultOf (messageOf kind d)
+  unfolding messageOf
+  plain-type =
+      is-plain F.Acknowledge (eqb kind 0x05) _ _ (is-plain F.NegativeAcknowledge (eqb kind 0x06) _ _ (is-plain F.UploadEventLog (eqb kind 0x0D) _ _
+      (is-plain F.RequestSystemInformation (eqb kind 0x11) _ _ (is-plain F.RequestSystemStatus (eqb kind 0x13) _ _
+      (is-plain F.Logout (eqb kind 0x21) _ _ (is-plain F.RequestSystemEvents (eqb kind 0x22) _ _ (λ e. never e)))))))
+
+  pub data-type : isPlain kind ≡ false → messageOf kind d ≡ withData kind d
+  unfolding messageOf
+  data-type =
+      is-other F.Acknowledge (eqb kind 0x05) _ _ (is-other F.NegativeAcknowledge (eqb kind 0x06) _ _ (is-other F.UploadEventLog (eqb kind 0x0D) _ _
+      (is-other F.RequestSystemInformation (eqb kind 0x11) _ _ (is-other F.RequestSystemStatus (eqb kind 0x13) _ _
+      (is-other F.Logout (eqb kind 0x21) _ _ (is-other F.RequestSystemEvents (eqb kind 0x22) _ _ (λ e. refl)))))))
 
 -- the types that are not those tested
 module _ (kind : ℕ) (d : List ℕ) where

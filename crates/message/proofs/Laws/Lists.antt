@@ -2,7 +2,7 @@
 use mathlib.Core.Path.{_≡_, refl, sym, ap, ap₂, _∙_}
 use mathlib.Core.Bool.{true, _&&_}
 use mathlib.Core.List.{List, [], _∷_}
-use Prim.Native.Nat.{ℕ, zero, suc, _+_, _*_, _/_, _%_, _<_, _≤_}
+use Prim.Native.Nat.{ℕ, zero, suc, _+_, _-_, _*_, _/_, _%_, _^_, _<_, _≤_}
 use native.Mathlib.Numerals.{add-two}
 use native.Mathlib.Omega.{arith}
 use lib.ListN.{length, getD, drop, drop-of-length-le}
@@ -59,6 +59,14 @@ module _ {A : Type 0} (make : ℕ → ℕ → A) where
       let x : suc (suc (2 * i)) ≡ 2 * suc i = omega arith in
       let y : suc (suc (2 * i + 1)) ≡ 2 * suc i + 1 = omega arith in
       pair-item d i (omega arith) ∙ ap₂ (λ (m n : ℕ). accepted (make (getD (a ∷ b ∷ d) m 0) (getD (a ∷ b ∷ d) n 0))) x y
+
+-- the two bits of a text message, by a shift
+pub two-bits : (b k : ℕ) → b < 256 → k < 4 → b / 2 ^ (6 - 2 * k) % 4 ≡ twoBits b k
+two-bits b zero h l = omega arith
+two-bits b (suc zero) h l = refl
+two-bits b (suc (suc zero)) h l = refl
+two-bits b (suc (suc (suc zero))) h l = omega arith
+two-bits b (suc (suc (suc (suc k)))) h l = let z : ⊥ = omega arith in absurd z
 
 pub past-texts : (d : List ℕ) (i : ℕ) → length d ≤ i / 4 → itemAt (texts d) i ≡ refused 8
 past-texts [] i h = refl

@@ -5,7 +5,7 @@ use Rattle.answer.specs.Answer.{Outcome, onAccepted}
 use Rattle.answer.specs.Packed.{packed}
 use Rattle.host.proofs.messages.omnilink_event.Statement.{statement}
 use Rattle.host.proofs.messages.omnilink_event.Tie as tie
-use Rattle.host.specs.Messages.{wordFields}
+use Rattle.message.specs.Fields.{wordFields}
 
 event-requires : tie.Need-event-requires
 event-requires c κs = search needs

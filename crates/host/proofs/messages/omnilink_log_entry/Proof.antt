@@ -5,7 +5,7 @@ use Rattle.answer.specs.Answer.{Outcome, onAccepted}
 use Rattle.answer.specs.Packed.{packed}
 use Rattle.host.proofs.messages.omnilink_log_entry.Statement.{statement}
 use Rattle.host.proofs.messages.omnilink_log_entry.Tie as tie
-use Rattle.host.specs.Messages.{wordFields}
+use Rattle.message.specs.Fields.{wordFields}
 
 log-entry-requires : tie.Need-log-entry-requires
 log-entry-requires c κs = search needs

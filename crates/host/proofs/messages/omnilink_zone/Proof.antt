@@ -4,7 +4,7 @@ use Rattle.answer.specs.Answer.{Outcome, onAccepted}
 use Rattle.answer.specs.Packed.{packed}
 use Rattle.host.proofs.messages.omnilink_zone.Statement.{statement}
 use Rattle.host.proofs.messages.omnilink_zone.Tie as tie
-use Rattle.host.specs.Messages.{zoneFields}
+use Rattle.message.specs.Fields.{zoneFields}
 use Rattle.message.specs.declared.lists.Zone.{Zone}
 
 zone-requires : tie.Need-zone-requires

@@ -1,18 +1,20 @@
-use Rattle.answer.proofs.Laws.Decided.{decided}
+use borrow.Author.Needs.{needs}
+use native.Mathlib.Omega.{arith}
+use Rattle.message.proofs.Laws.Lists.{two-bits}
 use Rattle.message.proofs.item.two_bits.Statement.{statement}
 use Rattle.message.proofs.item.two_bits.Tie as tie
 
+mul-result : tie.Need-mul-result
+mul-result c = search needs
+
+sub-result : tie.Need-sub-result
+sub-result c = search needs
+
+shr-result : tie.Need-shr-result
+shr-result c = search needs
+
 returns : tie.Need-returns
-returns c = search decided
-
-returns-2 : tie.Need-returns-2
-returns-2 c = search decided
-
-returns-3 : tie.Need-returns-3
-returns-3 c = search decided
-
-returns-4 : tie.Need-returns-4
-returns-4 c = search decided
+returns c = two-bits (c .args .b) (c .args .k) (omega arith) (c .pre)
 
 pub two-bits-spec : {M : Type 1} → statement M
-two-bits-spec = tie.close (tie.spec returns returns-2 returns-3 returns-4)
+two-bits-spec = tie.close (tie.spec mul-result sub-result shr-result returns)

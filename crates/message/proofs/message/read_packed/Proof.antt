@@ -7,7 +7,7 @@ use Rattle.answer.specs.Packed.{packed}
 use Rattle.link.specs.Frame.{outcomeOf, readFrame}
 use Rattle.message.proofs.Laws.Framed.{framed, unframed, part-length}
 use Rattle.message.specs.Message.{Message, messageOf, readMessage, counted}
-use Rattle.message.specs.Typed.{messageFields}
+use Rattle.message.specs.Fields.{messageFields}
 use borrow.Author.Needs.{needs}
 use Rattle.message.proofs.message.read_packed.Statement.{statement}
 use Rattle.message.proofs.message.read_packed.Tie as tie

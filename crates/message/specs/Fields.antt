@@ -1,15 +1,20 @@
--- The C interface's Omni-Link messages: the fields of each packed item, in the header's order.
+-- The C interface's Omni-Link messages: the fields of what is packed, in the header's order.
 use Prim.Native.Nat.{ℕ}
 use mathlib.Core.List.{List, [], _∷_}
 use Rattle.answer.specs.Bit.{bit}
 use Rattle.answer.specs.Packed.{Field, byte, word}
-use Rattle.message.specs.Typed.{conditionBits, latchedBits, armingBits}
+use Rattle.message.specs.Typed.{kindOf, countOf, conditionBits, latchedBits, armingBits}
 use Rattle.message.specs.declared.command.Command.{Command}
 use Rattle.message.specs.declared.command.Command.the-variants as C
 use Rattle.message.specs.declared.command.Duration.{Duration}
 use Rattle.message.specs.declared.command.Duration.the-variants as D
 use Rattle.message.specs.declared.lists.TextMessage.{TextMessage}
 use Rattle.message.specs.declared.lists.Zone.{Zone}
+use Rattle.message.specs.declared.message.Message.{Message as Counted}
+
+-- a message: type (8), count of items (8), which is 0 but for zones, events and text messages
+abbrev pub messageFields : Counted → List Field
+messageFields m = byte (kindOf m) ∷ byte (countOf m) ∷ []
 
 -- a zone: condition (8), latched alarm (8), arming (8), unacknowledged trouble (8), loop reading (8)
 abbrev pub zoneFields : Zone → List Field

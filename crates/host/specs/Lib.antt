@@ -1,2 +1,0 @@
--- How values are packed for C.
-pub mod Messages
