@@ -201,7 +201,8 @@ uint64_t x10_write_extended(uint8_t house, uint8_t unit, uint8_t data, uint8_t c
 /* Lists a capture of at most 4,096 bytes as text: from the left, where a whole accepted frame starts it is taken, else that byte
    is noise. A line for each run of noise, `noise OFFSET COUNT`, for each frame, `frame OFFSET COUNT TYPE`, and at last
    `end OFFSET`; all numbers decimal, each line closed by one line feed. A room of 8 * len + 25 bytes is always enough, and quicker.
-   Accepted: bytes written (32). Refused: 3 more than 4,096 bytes; 9 too little room. The capture 00 5A 01 05 C1 93 5A gives the lines noise 0 1, frame 1 5 5, noise 6 1 and end 7. */
+   Accepted: bytes written (32). Refused: 3 more than 4,096 bytes; 9 too little room.
+   The capture 00 5A 01 05 C1 93 5A gives the lines noise 0 1, frame 1 5 5, noise 6 1 and end 7. */
 uint64_t capture_listing(const uint8_t *bytes, size_t len, uint8_t *out, size_t room);
 
 #ifdef __cplusplus

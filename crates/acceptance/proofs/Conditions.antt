@@ -4,9 +4,12 @@ use mathlib.Core.Bool.{true}
 use mathlib.Core.List.{List}
 use Prim.Native.Nat.{ℕ}
 use Rattle.answer.specs.Answer.{accepted, onAccepted}
+use Rattle.link.proofs.Laws.First.{first-after-write}
 use Rattle.link.proofs.Laws.RoundTrip as Frames
 use Rattle.message.proofs.Laws.RoundTrip as Messages
-use Rattle.message.proofs.Laws.Listed.{zone-item, event-item, text-item, log-item, command-item, other-type}
+use Rattle.message.proofs.Laws.Carried.{zone-item, event-item, text-item, log-item, command-item, other-type}
+use Rattle.message.specs.Command.{readCommand}
+use Rattle.message.specs.Lists.{zoneStatusType, eventsType, messageStatusType}
 use Rattle.message.specs.Message.{fixed}
 use Rattle.message.specs.Typed.{withList}
 use Rattle.omnistat.proofs.Laws.Omnistat as Omnistat
@@ -29,6 +32,7 @@ messages = record {
   by-fixed = λ f s e. (fixed f, refl, Messages.read-after-write-fixed f s e);
   by-typed = λ m d s e. (withList m d, refl, Messages.read-after-write-typed m d s e .0);
   typed-count = λ m d s e. Messages.read-after-write-typed m d s e .1;
+  typed-data = Messages.typed-items;
   with-lists = record {
     read-back = λ m s any e. Messages.read-after-write m s e;
     write-back = λ s m t e. Messages.write-after-read s m t e;
@@ -42,7 +46,11 @@ items s = record {
   text-message = text-item s;
   log-field = log-item s;
   command = command-item s;
-  another-type = other-type s;
+  no-zone = λ m i. other-type s zoneStatusType _ m;
+  no-event = λ m i. other-type s eventsType _ m;
+  no-text-message = λ m i. other-type s messageStatusType _ m;
+  no-log-field = λ m i. other-type s 0x0E _ m;
+  no-command = other-type s 0x0F readCommand;
 }
 
 module _ (own : ℕ) (m s : List ℕ) (room : ℕ) (d : Done) (first : ℕ) (q : Request) (e : step own m s room ≡ accepted d)
@@ -73,6 +81,7 @@ condition-2 = record {
     read-back = λ f s any e. Frames.read-after-write (f .kind) (f .bytes) s e;
     write-back = λ s f t e. Frames.write-after-read s f t e;
   };
+  first-frame = first-after-write;
   messages = messages;
   items = items;
   omnistat2 = λ end. record {
@@ -90,7 +99,12 @@ condition-2 = record {
       let b = PatternsBack.read-after-write-code house code ps e in
       (function house (b .0), ap (onAccepted (function house)) (b .1), b .2);
   steps = steps;
-  temperatures = record { byte-back = Temperatures.read-after-write; degrees-back = Temperatures.write-after-read };
+  temperatures = record {
+    byte-back = Temperatures.read-after-write;
+    degrees-back = Temperatures.write-after-read;
+    pair-back = Temperatures.pair-read-after-write;
+    pair-degrees-back = Temperatures.pair-write-after-read;
+  };
   exact-sum = exact;
   listing = faithful;
   only-listing = only-faithful;

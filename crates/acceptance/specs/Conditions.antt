@@ -3,15 +3,16 @@
 use Prim.Native.Nat.{ℕ, _+_, _<_, _≤_}
 use mathlib.Core.Path.{_≡_}
 use mathlib.Core.Bool.{true, false}
-use mathlib.Core.List.{List}
+use mathlib.Core.List.{List, _++_}
 use mathlib.Core.Logic.{_⊎_}
 use lib.Dec.{T}
 use lib.Ieee.{Float, eq}
 use lib.ListN.{length, getD}
 use lib.Pow.{areBytes}
 use Rattle.answer.specs.Answer.{Outcome, refused, accepted, onAccepted}
-use Rattle.link.specs.Frame.{readFrame, writeFrame}
-use Rattle.message.specs.Item.{frameOf, itemAt, zoneItem, eventItem, textItem, logFields, logItem, commandItem}
+use Rattle.link.specs.Frame.{readFrame, readFirst, writeFrame}
+use Rattle.message.specs.Item.{itemAt, zoneItem, eventItem, textItem, logFields, logItem, commandItem}
+use Rattle.message.specs.Lists.{zoneStatusType, eventsType, messageStatusType}
 use Rattle.message.specs.Message.{Message, fixed, zoneStatus, events, messageStatus, messageOf, readMessage, writeMessage, counted}
 use Rattle.message.specs.Typed as Messages
 use Rattle.message.specs.declared.command.Command.{Command}
@@ -28,7 +29,7 @@ use Rattle.omnistat.specs.Message.{Request, poll, setFrom, pollGroup, asMessage
 use Rattle.omnistat.specs.Omnistat as Omnistat
 use Rattle.thermostat.specs.Map.{content}
 use Rattle.thermostat.specs.Step.{Done, step, isFor, allSettable}
-use Rattle.thermostat.specs.Temperature.{celsius, byteOf}
+use Rattle.thermostat.specs.Temperature.{celsius, byteOf, bytesOf}
 use Rattle.tally.specs.Run.{Call, Promised, totalFound, sumAccepted}
 use Rattle.x10.specs.Codes.{functionOf}
 use Rattle.x10.specs.Pattern as X10
@@ -51,22 +52,31 @@ abbrev pub ReadsBack : {M : Type 0} → (List ℕ → Outcome M) → Outcome M �
 ReadsBack {M} read given written = (s : List ℕ) → written ≡ accepted s → (m : M) × (given ≡ accepted m) × (read s ≡ accepted m)
 
 -- Omni-Link messages: the writers on a type and data bytes, on a message of fixed length, and on a typed message with the data bytes of its
--- list, whose count is then the one given; and both directions for messages with their lists
+-- list, whose count and data bytes are then those given; and both directions for messages with their lists
 pub record Messages-read-back : Type 0 where
   pub by-bytes : (kind : ℕ) (d : List ℕ) → ReadsBack readMessage (messageOf kind d) (writeMessage kind d)
   pub by-fixed : (f : Fixed) → ReadsBack readMessage (accepted (fixed f)) (Messages.writeFixed f)
   pub by-typed : (m : Counted) (d : List ℕ) → ReadsBack readMessage (accepted (Messages.withList m d)) (Messages.writeCounted m d)
   pub typed-count : (m : Counted) (d s : List ℕ) → Messages.writeCounted m d ≡ accepted s → counted (Messages.withList m d) ≡ m
+  pub typed-data : (m : Counted) (d s : List ℕ) → Bytes d → Messages.writeCounted m d ≡ accepted s → Messages.itemBytes (Messages.withList m d) ≡ d
   pub with-lists : Inverse readMessage Messages.write Any Bytes
 
--- item i of a message that was read is item i of its list; the frame of a message of another type is refused before an item is looked up
+-- a message's type is not this one
+abbrev pub OfAnotherType : ℕ → Message → Type 0
+OfAnotherType kind m = Messages.kindOf (counted m) ≡ kind → ⊥
+
+-- item i of a message that was read is item i of its list; a message of another type has none
 pub record Items (s : List ℕ) : Type 0 where
   pub zone : (zs : List Zone) (i : ℕ) → readMessage s ≡ accepted (zoneStatus zs) → zoneItem i s ≡ itemAt zs i
   pub event : (es : List ℕ) (i : ℕ) → readMessage s ≡ accepted (events es) → eventItem i s ≡ itemAt es i
   pub text-message : (ts : List TextMessage) (i : ℕ) → readMessage s ≡ accepted (messageStatus ts) → textItem i s ≡ itemAt ts i
   pub log-field : (e : LogEntry) (i : ℕ) → readMessage s ≡ accepted (fixed (F.LogEntry e)) → logItem i s ≡ itemAt (logFields e) i
   pub command : (c : Command) → readMessage s ≡ accepted (fixed (F.Command c)) → commandItem s ≡ accepted c
-  pub another-type : (kind : ℕ) (m : Message) → (Messages.kindOf (counted m) ≡ kind → ⊥) → readMessage s ≡ accepted m → frameOf kind s ≡ refused 8
+  pub no-zone : (m : Message) (i : ℕ) → OfAnotherType zoneStatusType m → readMessage s ≡ accepted m → zoneItem i s ≡ refused 8
+  pub no-event : (m : Message) (i : ℕ) → OfAnotherType eventsType m → readMessage s ≡ accepted m → eventItem i s ≡ refused 8
+  pub no-text-message : (m : Message) (i : ℕ) → OfAnotherType messageStatusType m → readMessage s ≡ accepted m → textItem i s ≡ refused 8
+  pub no-log-field : (m : Message) (i : ℕ) → OfAnotherType 0x0E m → readMessage s ≡ accepted m → logItem i s ≡ refused 8
+  pub no-command : (m : Message) → OfAnotherType 0x0F m → readMessage s ≡ accepted m → commandItem s ≡ refused 8
 
 -- a set of registers from a start on, at a map m, leaves a map: the addressed registers changed and no others, or none
 pub record Set-leaves (m : List ℕ) (start : ℕ) (values after : List ℕ) : Type 0 where
@@ -82,13 +92,18 @@ pub record Step-leaves (own first : ℕ) (q : Request) (m after : List ℕ) : Ty
   pub group-polled : (g : Group) → q ≡ pollGroup g → after ≡ m
   pub register-write : (start : ℕ) (values : List ℕ) → q ≡ setFrom start values → isFor own first ≡ true → Set-leaves m start values after
 
--- a temperature byte goes to degrees and back; what goes back to a byte equals that byte's degrees, as floats are compared
+-- a temperature byte, and a setpoint pair of two, goes to degrees and back; what goes back equals the degrees of its bytes, as floats are
+-- compared
 pub record Temperatures : Type 0 where
   pub byte-back : (n : ℕ) → n < 256 → byteOf (celsius n) ≡ accepted n
   pub degrees-back : (x : Float) (n : ℕ) → byteOf x ≡ accepted n → (n < 256) × (eq x (celsius n) ≡ true)
+  pub pair-back : (cool heat : ℕ) → cool < 256 → heat < 256 → bytesOf (celsius cool) (celsius heat) ≡ accepted (cool, heat)
+  pub pair-degrees-back : (x y : Float) (cool heat : ℕ) → bytesOf x y ≡ accepted (cool, heat)
+      → (eq x (celsius cool) ≡ true) × (eq y (celsius heat) ≡ true)
 
 pub record Condition-2 : Type 0 where
   pub frames : Inverse readFrame (λ f. writeFrame (f .kind) (f .bytes)) Any Bytes
+  pub first-frame : (kind : ℕ) (d s rest : List ℕ) → writeFrame kind d ≡ accepted s → readFirst (s ++ rest) ≡ accepted (record { kind = kind; bytes = d })
   pub messages : Messages-read-back
   pub items : (s : List ℕ) → Items s
   pub omnistat2 : (end : End) → Inverse (Omnistat.read end) (λ a. Omnistat.write end (a .address) (a .message)) Any Any

@@ -1,5 +1,6 @@
 -- The laws, a file for each subject.
 pub mod Accepts
+pub mod Carried
 pub mod Checked
 pub mod Decode
 pub mod Duration
@@ -9,7 +10,6 @@ pub mod Fault
 pub mod Framed
 pub mod Item
 pub mod Kinds
-pub mod Listed
 pub mod Lists
 pub mod Packed
 pub mod RoundTrip

@@ -143,6 +143,7 @@ fn with_data(kind: u8, data: &[u8]) -> u8
     6
 }
 
+// Whether a type has no data.
 fn is_plain(kind: u8) -> bool
     ensures { λ r. ⌜ r ≡ isPlain kind ⌝ }
 {
@@ -170,8 +171,7 @@ fn is_plain(kind: u8) -> bool
     false
 }
 
-// The number of the refusal that a type and data bytes have, or none. Small, so that the compiler puts it into its callers: a message
-// without data is then checked with no call.
+// The number of the refusal that a type and data bytes have, or none.
 pub(crate) fn fault(kind: u8, data: &[u8]) -> u8
     ensures { λ r. ⌜ r ≡ faultOf (messageOf kind (now («data» .entry))) ⌝ }
 {

@@ -137,7 +137,7 @@ fn checked(number: u8, p1: u8, p2: u16) -> CommandRead
 }
 
 // The command that data bytes carry.
-pub fn read(data: &[u8]) -> CommandRead
+pub(crate) fn read(data: &[u8]) -> CommandRead
     ensures { λ r. ⌜ commandRead r ≡ readCommand (now («data» .entry)) ⌝ }
 {
     if data.len() != 4 {

@@ -2,11 +2,11 @@
 ghost use mathlib.Core.Path.{_≡_};
 ghost use Rattle.message.specs.Lists.{conditionOf, latchedOf, armingOf, zoneOf, zoneListed, textOf, wordOf};
 
-pub const ZONE_STATUS: u8 = 0x16;
+pub(crate) const ZONE_STATUS: u8 = 0x16;
 
-pub const EVENTS: u8 = 0x23;
+pub(crate) const EVENTS: u8 = 0x23;
 
-pub const MESSAGE_STATUS: u8 = 0x25;
+pub(crate) const MESSAGE_STATUS: u8 = 0x25;
 
 // Status bits 0 and 1.
 pub enum Condition {

@@ -19,7 +19,7 @@ pub struct LogEntry {
     pub parameter_2: u16,
 }
 
-pub enum LogRead {
+pub(crate) enum LogRead {
     Accepted(LogEntry),
     Refused(Refusal),
 }
@@ -77,7 +77,7 @@ pub(crate) fn log_of(data: &[u8]) -> LogEntry
 }
 
 // The log entry that data bytes carry.
-pub fn read(data: &[u8]) -> LogRead
+pub(crate) fn read(data: &[u8]) -> LogRead
     ensures { λ r. ⌜ logRead r ≡ readLog (now («data» .entry)) ⌝ }
 {
     if data.len() != 10 {

@@ -44,7 +44,7 @@ pub enum Fixed {
     Command(Command),
 }
 
-// A message. A list is held as its count; its items are read from the data part of the caller's slice.
+// A message. A list is held as its count; its items are read from the message's bytes by the calls of `item`.
 pub enum Message {
     Fixed(Fixed),
     ZoneStatus { count: u8 },
@@ -266,7 +266,7 @@ fn with_data(kind: u8, data: &[u8]) -> MessageRead
 }
 
 // The message that a frame's type and data bytes carry: 6, 7, 8.
-pub fn of_data(kind: u8, data: &[u8]) -> MessageRead
+pub(crate) fn of_data(kind: u8, data: &[u8]) -> MessageRead
     ensures { λ r. ⌜ messageRead r ≡ onAccepted counted (messageOf kind (now («data» .entry))) ⌝ }
 {
     if kind == 0x05 {

@@ -81,7 +81,7 @@ pub fn code_of(f: Function) -> u8
     }
 }
 
-// Reads a pattern: checks 1, 8, 2 on the first 22 places, then what they say.
+// Reads a pattern: 1, then 8 before 2 on the first 22 places (`refuse`), then what they say.
 pub fn read(places: &[u8]) -> Pattern
     ensures { λ r. ⌜ outcomeOf r ≡ read (now (places .entry)) ⌝ }
 {

@@ -45,3 +45,9 @@ field-of-accepted before f after fit h =
     ∙ ap (λ (n : ℕ). n % 2 ^ f .bits) (past before (f ∷ after) fit)
     ∙ add-mul-mod-self-left (f .value) (2 ^ f .bits) (stacked after)
     ∙ mod-eq-of-lt h
+
+-- a single field, with all that stands above the number
+pub value-of-accepted : (f : Field) → packed (accepted (f ∷ [])) / 2 ^ 8 ≡ f .value
+value-of-accepted f =
+    let alone : f .value + 2 ^ f .bits * 0 ≡ f .value = omega arith in
+    mul-div-right (stacked (f ∷ [])) (pow-pos 8) ∙ alone

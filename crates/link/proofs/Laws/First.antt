@@ -1,12 +1,13 @@
 -- The frame that starts a byte string. Assumes nothing.
-use mathlib.Core.Path.{_≡_, sym, ap, _∙_}
-use mathlib.Core.List.{List}
+use mathlib.Core.Path.{_≡_, refl, sym, ap, _∙_}
+use mathlib.Core.List.{List, _++_}
 use Prim.Native.Nat.{ℕ, min, _+_, _<_, _≤_}
 use native.Mathlib.Omega.{arith}
 use lib.ListN.{length, getD, take, length-take}
-use lib.Seq.{getD-take, take-take, take-length}
+use lib.Seq.{getD-take, take-take, take-length, take-at}
 use Rattle.answer.specs.Answer.{accepted}
-use Rattle.link.specs.Frame.{Frame, readFrame, readFirst, size}
+use Rattle.link.specs.Frame.{Frame, readFrame, readFirst, writeFrame, size}
+use Rattle.link.proofs.Laws.RoundTrip.{read-after-write}
 use Rattle.link.proofs.Laws.Whole.{Whole, whole, counted, few}
 
 -- what is known of the bytes where a frame starts
@@ -48,3 +49,9 @@ only-one s n f e =
     ap (λ (k : ℕ). readFrame (take k s)) m
     ∙ ap readFrame (sym (take-take (length (take n s)) n s (omega arith)) ∙ take-length (take n s))
     ∙ e
+
+-- what is written is the frame that starts it, whatever follows
+pub first-after-write : (kind : ℕ) (bytes s rest : List ℕ) → writeFrame kind bytes ≡ accepted s → readFirst (s ++ rest) ≡ accepted (record { kind = kind; bytes = bytes })
+first-after-write kind bytes s rest e =
+    only-one (s ++ rest) (length s) (record { kind = kind; bytes = bytes })
+    (ap readFrame (take-at s rest (length s) refl) ∙ read-after-write kind bytes s e)

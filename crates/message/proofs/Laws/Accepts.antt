@@ -9,7 +9,7 @@ use borrow.Author.Tests.{eqb-true, not-false}
 use Rattle.answer.specs.Answer.{Outcome, refused, accepted, refuseIf, onAccepted}
 use Rattle.answer.proofs.Laws.Test.{not-accepted}
 use Rattle.link.specs.Frame.{Frame}
-use Rattle.message.specs.Lists.{zones, zonesListed, words, texts}
+use Rattle.message.specs.Lists.{zoneStatusType, eventsType, messageStatusType, zones, zonesListed, words, texts}
 use Rattle.message.specs.Message.{Message, fixed, zoneStatus, events, messageStatus, digitsListed, orderListed, statusLength, readPlain, readLogin, readZoneRequest, readZoneStatus, readEvents, readMessageStatus, withData, messageOf}
 use Rattle.message.specs.Command.{readCommand}
 use Rattle.message.specs.Log.{readLog}
@@ -41,8 +41,8 @@ module _ (P : Message → Type 0) where
 
   -- type by type
   pub every-type : (kind : ℕ) (d : List ℕ) → ((f : Fixed) → fixedFrame f ≡ record { kind = kind; bytes = [] } → Every (readPlain f d)) → (kind ≡ 0x20 → Every (readLogin d))
-      → (kind ≡ 0x15 → Every (readZoneRequest d)) → (kind ≡ 0x16 → Every (readZoneStatus d)) → (kind ≡ 0x23 → Every (readEvents d))
-      → (kind ≡ 0x25 → Every (readMessageStatus d)) → (kind ≡ 0x0E → Every (onAccepted (λ e. fixed (F.LogEntry e)) (readLog d)))
+      → (kind ≡ 0x15 → Every (readZoneRequest d)) → (kind ≡ zoneStatusType → Every (readZoneStatus d)) → (kind ≡ eventsType → Every (readEvents d))
+      → (kind ≡ messageStatusType → Every (readMessageStatus d)) → (kind ≡ 0x0E → Every (onAccepted (λ e. fixed (F.LogEntry e)) (readLog d)))
       → (kind ≡ 0x0F → Every (onAccepted (λ c. fixed (F.Command c)) (readCommand d)))
       → Every (messageOf kind d)
   unfolding messageOf withData
@@ -56,9 +56,9 @@ module _ (P : Message → Type 0) where
       (every-cond (eqb kind 0x22) _ _ (λ e. plain F.RequestSystemEvents (blank 0x22 e))
       (every-cond (eqb kind 0x20) _ _ (λ e. login (eqb-true kind 0x20 e))
       (every-cond (eqb kind 0x15) _ _ (λ e. request (eqb-true kind 0x15 e))
-      (every-cond (eqb kind 0x16) _ _ (λ e. zone (eqb-true kind 0x16 e))
-      (every-cond (eqb kind 0x23) _ _ (λ e. event (eqb-true kind 0x23 e))
-      (every-cond (eqb kind 0x25) _ _ (λ e. text (eqb-true kind 0x25 e))
+      (every-cond (eqb kind zoneStatusType) _ _ (λ e. zone (eqb-true kind zoneStatusType e))
+      (every-cond (eqb kind eventsType) _ _ (λ e. event (eqb-true kind eventsType e))
+      (every-cond (eqb kind messageStatusType) _ _ (λ e. text (eqb-true kind messageStatusType e))
       (every-cond (eqb kind 0x0E) _ _ (λ e. log (eqb-true kind 0x0E e))
       (every-cond (eqb kind 0x0F) _ _ (λ e. command (eqb-true kind 0x0F e))
       (λ m e. absurd (not-accepted 6 m e)))))))))))))))

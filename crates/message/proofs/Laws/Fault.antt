@@ -21,7 +21,7 @@ use Rattle.message.specs.declared.message.Fixed.{Fixed}
 use Rattle.message.specs.declared.message.Fixed.the-variants as F
 use Rattle.message.proofs.Laws.Accepts.{every-type, every-plain, every-login, every-request, every-zones, every-events, every-texts, every-log, every-command}
 use Rattle.message.proofs.Laws.Checked.{never}
-use Rattle.message.proofs.Laws.Listed.{kind-of}
+use Rattle.message.proofs.Laws.Carried.{kind-of}
 use Rattle.message.proofs.Laws.Lists.{pairs-length, texts-length}
 
 -- ---- the refusals behind the frame are 6, 7 and 8

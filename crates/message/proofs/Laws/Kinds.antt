@@ -8,7 +8,7 @@ use lib.Dec.{eqb}
 use lib.ListN.{length, getD, drop, length-drop}
 use borrow.Author.Tests.{eq-eqb, ne-eqb, le-ltb}
 use Rattle.answer.specs.Answer.{Outcome, refused, accepted, refuseIf, onAccepted}
-use Rattle.message.specs.Lists.{zoneOf, zones, zonesListed, texts}
+use Rattle.message.specs.Lists.{zoneStatusType, eventsType, messageStatusType, zoneOf, zones, zonesListed, texts}
 use Rattle.message.specs.Message.{Message, fixed, zoneStatus, messageStatus, statusLength, readPlain, readZoneStatus, readMessageStatus, withData, messageOf, counted}
 use Rattle.message.specs.Parts.{faultOf, isPlain, plainFault}
 use Rattle.message.specs.declared.message.Fixed.{Fixed}
@@ -117,8 +117,8 @@ module _ (kind : ℕ) (d : List ℕ) where
   not-plain a b c f g h k =
       simp (ne-eqb kind 0x05 a, ne-eqb kind 0x06 b, ne-eqb kind 0x0D c, ne-eqb kind 0x11 f, ne-eqb kind 0x13 g, ne-eqb kind 0x21 h, ne-eqb kind 0x22 k)
 
-  pub unknown : (kind ≡ 0x20 → ⊥) → (kind ≡ 0x15 → ⊥) → (kind ≡ 0x16 → ⊥) → (kind ≡ 0x23 → ⊥) → (kind ≡ 0x25 → ⊥) → (kind ≡ 0x0E → ⊥) → (kind ≡ 0x0F → ⊥)
+  pub unknown : (kind ≡ 0x20 → ⊥) → (kind ≡ 0x15 → ⊥) → (kind ≡ zoneStatusType → ⊥) → (kind ≡ eventsType → ⊥) → (kind ≡ messageStatusType → ⊥) → (kind ≡ 0x0E → ⊥) → (kind ≡ 0x0F → ⊥)
       → withData kind d ≡ refused 6
   unfolding withData
   unknown a b c f g h k =
-      simp (ne-eqb kind 0x20 a, ne-eqb kind 0x15 b, ne-eqb kind 0x16 c, ne-eqb kind 0x23 f, ne-eqb kind 0x25 g, ne-eqb kind 0x0E h, ne-eqb kind 0x0F k)
+      simp (ne-eqb kind 0x20 a, ne-eqb kind 0x15 b, ne-eqb kind zoneStatusType c, ne-eqb kind eventsType f, ne-eqb kind messageStatusType g, ne-eqb kind 0x0E h, ne-eqb kind 0x0F k)

@@ -98,6 +98,28 @@ read-after-write-typed (C.MessageStatus n) d s e =
     let size : length (texts (drop 1 d)) ≡ n = omega (arith, texts-length (drop 1 d), length-drop 1 d) in
     (r .1, ap C.MessageStatus size)
 
+-- the items of a message status in their data bytes are the data bytes
+texts-same : (d : List ℕ) → T (areBytes d) → statusLength (length d) ≡ true → getD d 0 0 ≡ 0 → 0 ∷ textBytes (texts (drop 1 d)) ≡ d
+unfolding statusLength
+texts-same d bytes listed blank =
+    ap {B = List ℕ} (λ x. 0 ∷ x) (texts-encoded (drop 1 d) (drop-bytes 1 d bytes))
+    ∙ leading d blank (λ none. never (sym (ap statusLength none) ∙ listed))
+
+-- and its items are the data bytes that it was given: none is dropped
+pub typed-items : (m : Counted) (d s : List ℕ) → T (areBytes d) → writeCounted m d ≡ accepted s → itemBytes (withList m d) ≡ d
+unfolding writeItems messageOf withData
+typed-items (C.Fixed f) d s bytes e = sym (none-of d (eqb-true (length d) 0 (passed-not (eqb (length d) 0) 7 (writeFixed f) s e .0)))
+typed-items (C.ZoneStatus n) d s bytes e =
+    let c = carried zoneStatusType d s (passed-not (eqb (length d) (2 * n)) 7 (writeMessage zoneStatusType d) s e .1) in
+    every-zones (λ _. zoneBytes (zones d) ≡ d) d (zones-encoded d) (c .0) (c .1)
+typed-items (C.Events n) d s bytes e =
+    let c = carried eventsType d s (passed-not (eqb (length d) (2 * n)) 7 (writeMessage eventsType d) s e .1) in
+    every-events (λ _. eventBytes (words d) ≡ d) d (events-encoded d bytes) (c .0) (c .1)
+typed-items (C.MessageStatus n) d s bytes e =
+    let p = passed-not (eqb (n % 4) 0) 7 (writeItems messageStatusType (1 + n / 4) d) s e in
+    let c = carried messageStatusType d s (passed-not (eqb (length d) (1 + n / 4)) 7 (writeMessage messageStatusType d) s (p .1) .1) in
+    every-texts (λ _. 0 ∷ textBytes (texts (drop 1 d)) ≡ d) d (texts-same d bytes) (c .0) (c .1)
+
 -- the items of a message in their data bytes are its items
 items-back : (m : Message) (s : List ℕ) → write m ≡ accepted s → withList (counted m) (itemBytes m) ≡ m
 unfolding write
@@ -156,17 +178,16 @@ module _ (kind : ℕ) (d : List ℕ) (bytes : T (areBytes d)) where
       let ts = texts (drop 1 d) in
       let some : length d ≡ 0 → ⊥ = λ none. never (sym (ap statusLength none) ∙ listed) in
       let fours : length ts % 4 ≡ 0 = omega (arith, texts-length (drop 1 d)) in
-      let same : 0 ∷ textBytes ts ≡ d =
-      ap {B = List ℕ} (λ x. 0 ∷ x) (texts-encoded (drop 1 d) (drop-bytes 1 d bytes)) ∙ leading d blank some in
+      let same : 0 ∷ textBytes ts ≡ d = texts-same d bytes listed blank in
       let size : length d ≡ 1 + length ts / 4 = omega (arith, some, texts-length (drop 1 d), length-drop 1 d) in
       sym (passes 7 (writeItems messageStatusType (1 + length ts / 4) (0 ∷ textBytes ts)) refl (eq-eqb (length ts % 4) 0 fours))
       ∙ items-written messageStatusType (1 + length ts / 4) (0 ∷ textBytes ts) same size
       ∙ ap (λ (k : ℕ). writeMessage k d) (sym is)
 
   -- parameter 2 of the log entry and P2 of a command, in the two bytes that they came from
-  last-two : (k j : ℕ) → (getD d k 0 * 256 + getD d j 0) / 256 ∷ (getD d k 0 * 256 + getD d j 0) % 256 ∷ [] ≡ getD d k 0 ∷ getD d j 0 ∷ []
+  last-two : (k j : ℕ) → (wordOf (getD d k 0) (getD d j 0)) / 256 ∷ (wordOf (getD d k 0) (getD d j 0)) % 256 ∷ [] ≡ getD d k 0 ∷ getD d j 0 ∷ []
   last-two k j =
-      let w = word-apart (getD d k 0) (getD d j 0) (getD d k 0 * 256 + getD d j 0) (byte-at d bytes j) refl in
+      let w = word-apart (getD d k 0) (getD d j 0) (wordOf (getD d k 0) (getD d j 0)) (byte-at d bytes j) refl in
       ap₂ {C = List ℕ} (λ x y. x ∷ y ∷ []) (w .0) (w .1)
 
   log-bytes : length d ≡ 10 → logBytes (logOf d) ≡ d
@@ -189,7 +210,7 @@ module _ (kind : ℕ) (d : List ℕ) (bytes : T (areBytes d)) where
   command-written is c h =
       let n = getD d 0 0 in
       let p1 = getD d 1 0 in
-      let p2 = getD d 2 0 * 256 + getD d 3 0 in
+      let p2 = wordOf (getD d 2 0) (getD d 3 0) in
       let p = passed (not (eqb (length d) 4)) 7 _ c h in
       let q = passed (not (commandListed n p1 p2)) 8 _ c (p .1) in
       let four : length d ≡ 4 = eqb-true (length d) 4 (not-false (eqb (length d) 4) (p .0)) in

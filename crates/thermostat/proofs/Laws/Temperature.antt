@@ -12,9 +12,10 @@ use lib.IntN.{pos}
 use lib.Ieee.{Float, nan, inf, fin, binary32, up, down, level, round, size, span, climb, units, odd, mul, sub, add, neg, sum, ofInt, ofBits, ofFields, eq, toBits, isNan, fits}
 use lib.Ieee.Fits.{round-fits}
 use borrow.Author.Tests.{eqb-true}
-use Rattle.answer.specs.Answer.{Outcome, refused, accepted}
-use Rattle.thermostat.specs.Temperature.{celsius, firstEqual, byteOf}
+use Rattle.answer.specs.Answer.{Outcome, refused, accepted, onAccepted}
+use Rattle.thermostat.specs.Temperature.{celsius, firstEqual, byteOf, bytesOf}
 use Rattle.answer.proofs.Laws.Table.{below, holds, both-left, both-right}
+use Rattle.answer.proofs.Laws.Test.{then-accepted, on-accepted}
 use Rattle.thermostat.proofs.Laws.Float.{equal, zeroOf}
 
 -- ---- two functions that give the same at every byte, by a computed list of their values
@@ -190,3 +191,18 @@ write-after-read x n e = let r = from 256 0 e in (let l : n < 256 = omega (arith
         (λ w. (let j : i ≡ n = w .1 in let l : n < i + suc k = omega arith in l, ap (λ (m : ℕ). eq x (celsius m)) (sym (w .1)) ∙ w .0))
         (λ w. let r = from k (suc i) w in (let l : n < i + suc k = omega (arith, r .0) in l, r .1))
         (pick (eq x (celsius i)) i (firstEqual k (suc i) x) q)
+
+-- a pair of bytes goes to degrees and back, and what goes back equals the degrees of its bytes
+pub pair-read-after-write : (cool heat : ℕ) → cool < 256 → heat < 256 → bytesOf (celsius cool) (celsius heat) ≡ accepted (cool, heat)
+pair-read-after-write cool heat c h = simp (read-after-write cool c, read-after-write heat h)
+
+pub pair-write-after-read : (x y : Float) (cool heat : ℕ) → bytesOf x y ≡ accepted (cool, heat)
+    → (eq x (celsius cool) ≡ true) × (eq y (celsius heat) ≡ true)
+pair-write-after-read x y cool heat e =
+    let c = then-accepted (byteOf x) (λ c. onAccepted (λ h. (c, h)) (byteOf y)) (cool, heat) e in
+    let h = on-accepted (λ h. (c .0, h)) (byteOf y) (cool, heat) (c .2) in
+    let same-cool : c .0 ≡ cool = ap (λ (p : ℕ × ℕ). p .0) (h .2) in
+    let same-heat : h .0 ≡ heat = ap (λ (p : ℕ × ℕ). p .1) (h .2) in (
+      write-after-read x cool (c .1 ∙ ap accepted same-cool) .1,
+      write-after-read y heat (h .1 ∙ ap accepted same-heat) .1,
+    )

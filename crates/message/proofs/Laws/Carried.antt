@@ -46,9 +46,10 @@ module _ (s : List ℕ) where
       simp (e, f .1, eq-eqb (f .0 .kind) kind right) (there (f .0 .bytes) (subst (λ (k : ℕ). messageOf k (f .0 .bytes) ≡ accepted m) right (f .2)))
 
   -- a message of another type
-  pub other-type : (kind : ℕ) (m : Message) → (kindOf (counted m) ≡ kind → ⊥) → readMessage s ≡ accepted m → frameOf kind s ≡ refused 8
-  unfolding frameOf
-  other-type kind m is e =
+  pub other-type : {A : Type 0} (kind : ℕ) (look : List ℕ → Outcome A) (m : Message) → (kindOf (counted m) ≡ kind → ⊥) → readMessage s ≡ accepted m
+      → itemOf kind look s ≡ refused 8
+  unfolding itemOf frameOf
+  other-type kind look m is e =
       let f = its-frame m e in
       let wrong : f .0 .kind ≡ kind → ⊥ = λ h. is (kind-of (f .0 .kind) (f .0 .bytes) m (f .2) ∙ h) in
       simp (e, f .1, ne-eqb (f .0 .kind) kind wrong)
