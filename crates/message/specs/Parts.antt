@@ -1,11 +1,12 @@
 -- What the functions behind the reader and the writers promise one another.
 use Prim.Native.Nat.{ℕ, _-_, _/_, _%_}
 use mathlib.Core.Bool.{Bool, true, false, cond, not}
-use mathlib.Core.List.{List, _++_}
+use mathlib.Core.List.{List, [], _∷_, _++_}
 use mathlib.Core.Path.{_≡_}
 use lib.Dec.{eqb}
 use lib.ListN.{length, replicate}
 use Rattle.answer.specs.Answer.{Outcome, refused, accepted, refuseIf}
+use Rattle.answer.specs.Packed.{packed, byte}
 use Rattle.link.specs.Frame.{Header}
 use Rattle.message.specs.Lists.{zoneStatusType, eventsType, messageStatusType}
 use Rattle.message.specs.declared.typed.Encoded.{Encoded}
@@ -50,6 +51,10 @@ itemsIn kind size =
     (cond (eqb kind eventsType) (size / 2)
     (cond (eqb kind messageStatusType) (textsIn size)
     0))
+
+-- what is packed of a type and a count of items, unless there is a fault
+abbrev pub packedUnless : ℕ → ℕ → ℕ → ℕ
+packedUnless fault kind items = cond (eqb fault 0) (packed (accepted (byte kind ∷ byte items ∷ []))) fault
 
 -- the refusal with a number of 6, 7 and 8
 abbrev pub faultNumber : ℕ → ℕ

@@ -14,7 +14,7 @@ ghost use Rattle.message.specs.Parts.{faultOf, isPlain, plainFault, faul
 // No fault.
 pub(crate) const NONE: u8 = 0;
 
-fn plain(data: &[u8]) -> u8
+pub(crate) fn plain(data: &[u8]) -> u8
     ensures { λ r. ⌜ r ≡ plainFault (now («data» .entry)) ⌝ }
 {
     if data.len() != 0 {
@@ -144,7 +144,7 @@ fn with_data(kind: u8, data: &[u8]) -> u8
 }
 
 // Whether a type has no data.
-fn is_plain(kind: u8) -> bool
+pub(crate) fn is_plain(kind: u8) -> bool
     ensures { λ r. ⌜ r ≡ isPlain kind ⌝ }
 {
     if kind == 0x05 {

@@ -23,6 +23,10 @@ ghost use Rattle.message.specs.Message.{messageOf};
 ghost use Rattle.message.specs.Parts.{headerOf, twoBits, Taken};
 ghost use Rattle.message.specs.Item.{frameOf, itemAt, zoneItem, eventItem, textItem, logFields, logItem, commandItem, zoneRead, wordRead, textRead};
 
+const LOG_ENTRY: u8 = 0x0E;
+
+const COMMAND: u8 = 0x0F;
+
 pub enum ZoneRead {
     Accepted(Zone),
     Refused(Refusal),
@@ -178,7 +182,7 @@ pub fn text_message(bytes: &[u8], i: usize) -> TextRead
 pub fn log_entry(bytes: &[u8], i: usize) -> WordRead
     ensures { λ r. ⌜ wordRead r ≡ logItem i (now (bytes .entry)) ⌝ }
 {
-    match header_of(bytes, 0x0E) {
+    match header_of(bytes, LOG_ENTRY) {
         FrameRead::Accepted { kind: _, count } => log_field_at(link::frame::data(bytes, count), i),
         FrameRead::Refused(r) => WordRead::Refused(r),
     }
@@ -188,7 +192,7 @@ pub fn log_entry(bytes: &[u8], i: usize) -> WordRead
 pub fn command(bytes: &[u8]) -> CommandRead
     ensures { λ r. ⌜ commandRead r ≡ commandItem (now (bytes .entry)) ⌝ }
 {
-    match header_of(bytes, 0x0F) {
+    match header_of(bytes, COMMAND) {
         FrameRead::Accepted { kind: _, count } => crate::command::read(link::frame::data(
             bytes,
             count,
@@ -230,7 +234,7 @@ fn packed_command(data: &[u8]) -> u64
 pub fn command_packed(bytes: &[u8]) -> u64
     ensures { λ r. ⌜ r ≡ packed (onAccepted commandFields (commandItem (now (bytes .entry)))) ⌝ }
 {
-    match header_of(bytes, 0x0F) {
+    match header_of(bytes, COMMAND) {
         FrameRead::Accepted { kind: _, count } => packed_command(link::frame::data(bytes, count)),
         FrameRead::Refused(r) => answer::pack_refusal(r),
     }

@@ -20,6 +20,7 @@ ghost use Rattle.message.specs.Lists.{zonesListed};
 ghost use Rattle.message.specs.Log.{readLog};
 ghost use Rattle.message.specs.Message.{digitsListed, orderListed, statusLength, readPlain, readLogin, readZoneRequest, readZoneStatus, readEvents, readMessageStatus, withData, messageOf, readMessage, writeMessage, counted, messageRead};
 ghost use Rattle.message.specs.Fields.{messageFields};
+ghost use Rattle.message.specs.Parts.{faultOf, packedUnless};
 
 // The messages of fixed length: those without data (05, 06, 0D, 11, 13, 21, 22), 20, 15, 0E and 0F.
 pub enum Fixed {
@@ -303,16 +304,25 @@ pub fn read(bytes: &[u8]) -> MessageRead
     }
 }
 
-// The packed answer for a type and its data bytes, so many.
+// The packed answer for a type and a count of items, where there is no fault; else the fault.
+fn packed_unless(fault: u8, kind: u8, items: u8) -> u64
+    ensures { λ r. ⌜ r ≡ packedUnless fault kind items ⌝ }
+{
+    if fault != check::NONE {
+        return fault as u64;
+    }
+    answer::pack_2_bytes(kind, items)
+}
+
+// The packed answer for a type and its data bytes, so many. A type without data is answered with no call.
 fn packed_data(kind: u8, count: u8, data: &[u8]) -> u64
     requires { ⌜ length (now «data») ≡ count ⌝ }
     ensures { λ r. ⌜ r ≡ packed (onAccepted (λ m. messageFields (counted m)) (messageOf kind (now («data» .entry)))) ⌝ }
 {
-    let fault = check::fault(kind, data);
-    if fault != check::NONE {
-        return fault as u64;
+    if check::is_plain(kind) {
+        return packed_unless(check::plain(data), kind, 0);
     }
-    answer::pack_2_bytes(kind, check::items_in(kind, count))
+    packed_unless(check::fault(kind, data), kind, check::items_in(kind, count))
 }
 
 // Reads a byte string as a whole message and makes none of it: packed for C, its type and the count of its items.
@@ -327,14 +337,25 @@ pub fn read_packed(bytes: &[u8]) -> u64
     }
 }
 
+// Writes the frame of a type and data bytes that have this fault, or none.
+fn write_unless(fault: u8, kind: u8, data: &[u8], out: &mut [u8]) -> Written
+    requires { ⌜ fault ≡ faultOf (messageOf kind (now «data»)) ⌝ }
+    ensures { λ r. ⌜ writtenOf r ≡ onAccepted length (inRoom (length (now (out .entry))) (writeMessage kind (now («data» .entry)))) ⌝ }
+    ensures { λ _. ⌜ now (out .exit) ≡ outAfter (inRoom (length (now (out .entry))) (writeMessage kind (now («data» .entry)))) (now (out .entry)) ⌝ }
+{
+    if fault != check::NONE {
+        return Written::Refused(check::refusal(fault));
+    }
+    link::frame::write(kind, data, out)
+}
+
 // Writes the message of a type and data bytes: 6, 7, 8, then 9.
 pub fn write(kind: u8, data: &[u8], out: &mut [u8]) -> Written
     ensures { λ r. ⌜ writtenOf r ≡ onAccepted length (inRoom (length (now (out .entry))) (writeMessage kind (now («data» .entry)))) ⌝ }
     ensures { λ _. ⌜ now (out .exit) ≡ outAfter (inRoom (length (now (out .entry))) (writeMessage kind (now («data» .entry)))) (now (out .entry)) ⌝ }
 {
-    let fault = check::fault(kind, data);
-    if fault != check::NONE {
-        return Written::Refused(check::refusal(fault));
+    if check::is_plain(kind) {
+        return write_unless(check::plain(data), kind, data, out);
     }
-    link::frame::write(kind, data, out)
+    write_unless(check::fault(kind, data), kind, data, out)
 }

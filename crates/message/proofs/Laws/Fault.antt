@@ -14,7 +14,7 @@ use Rattle.message.specs.Command.{commandListed, commandOf, checkedComma
 use Rattle.message.specs.Lists.{zoneStatusType, eventsType, messageStatusType, zoneOf, wordOf, zones, zonesListed, words, texts}
 use Rattle.message.specs.Log.{logListed, logOf, readLog}
 use Rattle.message.specs.Message.{Message, fixed, zoneStatus, events, messageStatus, digitsListed, orderListed, statusLength, readPlain, readLogin, readZoneRequest, readZoneStatus, readEvents, readMessageStatus, withData, messageOf, counted}
-use Rattle.message.specs.Parts.{faultOf, faultNumber, textsIn, itemsIn}
+use Rattle.message.specs.Parts.{faultOf, faultNumber, isPlain, textsIn, itemsIn, packedUnless}
 use Rattle.message.specs.Fields.{messageFields}
 use Rattle.message.specs.Typed.{fixedFrame, countOf}
 use Rattle.message.specs.declared.message.Fixed.{Fixed}
@@ -162,6 +162,18 @@ count-of kind d =
     at : (k : ℕ) → kind ≡ k → itemsIn k (length d) ≡ itemsIn kind (length d)
     at k is = ap (λ (x : ℕ). itemsIn x (length d)) (sym is)
 
+-- a message without data has none
+pub plain-none : (kind n : ℕ) → isPlain kind ≡ true → 0 ≡ itemsIn kind n
+plain-none kind n =
+    or 0x05 refl (or 0x06 refl (or 0x0D refl (or 0x11 refl (or 0x13 refl (or 0x21 refl (or 0x22 refl (λ e. never e)))))))
+  where
+    or : (k : ℕ) {rest : Bool} → itemsIn k n ≡ 0 → (rest ≡ true → 0 ≡ itemsIn kind n) → cond (eqb kind k) true rest ≡ true → 0 ≡ itemsIn kind n
+    or k {rest} none later = by (eqb kind k) refl
+      where
+        by : (t : Bool) → eqb kind k ≡ t → cond t true rest ≡ true → 0 ≡ itemsIn kind n
+        by true e h = sym (ap (λ (x : ℕ). itemsIn x n) (eqb-true kind k e) ∙ none)
+        by false e h = later h
+
 -- ---- what is answered by the number
 
 module _ (kind : ℕ) (d : List ℕ) (fault : ℕ) (is : fault ≡ faultOf (messageOf kind d)) where
@@ -176,11 +188,12 @@ module _ (kind : ℕ) (d : List ℕ) (fault : ℕ) (is : fault ≡ faultOf (mess
   abbrev Packed : Outcome Message → ℕ
   Packed o = packed (onAccepted (λ m. messageFields (counted m)) o)
 
-  pub packed-faulty : (fault ≡ 0 → ⊥) → fault ≡ Packed (messageOf kind d)
-  packed-faulty some = sym (ap Packed (faulty kind d fault is some .0))
-
-  pub packed-faultless : (n : ℕ) → n ≡ itemsIn kind (length d) → fault ≡ 0 → packed (accepted (byte kind ∷ byte n ∷ [])) ≡ Packed (messageOf kind d)
-  packed-faultless n count none =
-      let m = faultless kind d fault is none in
-      ap₂ (λ (k c : ℕ). packed (accepted (byte k ∷ byte c ∷ []))) (sym (kind-of kind d (m .0) (m .1))) (count ∙ sym (count-of kind d (m .0) (m .1)))
-      ∙ sym (ap Packed (m .1))
+  pub packed-by-fault : (n : ℕ) → n ≡ itemsIn kind (length d) → packedUnless fault kind n ≡ Packed (messageOf kind d)
+  packed-by-fault n count = by (eqb fault 0) refl
+    where
+      by : (t : Bool) → eqb fault 0 ≡ t → cond t (packed (accepted (byte kind ∷ byte n ∷ []))) fault ≡ Packed (messageOf kind d)
+      by true e =
+          let m = faultless kind d fault is (eqb-true fault 0 e) in
+          ap₂ (λ (k c : ℕ). packed (accepted (byte k ∷ byte c ∷ []))) (sym (kind-of kind d (m .0) (m .1))) (count ∙ sym (count-of kind d (m .0) (m .1)))
+          ∙ sym (ap Packed (m .1))
+      by false e = sym (ap Packed (faulty kind d fault is (eqb-false fault 0 e) .0))

@@ -1,48 +1,49 @@
-use lib.ListN.{length}
-use mathlib.Core.Path.{sym, ap}
-use Rattle.answer.specs.Answer.{inRoom}
-use Rattle.link.specs.Frame.{writeFrame}
-use Rattle.message.proofs.Laws.Fault.{then-faulty, then-faultless}
-use Rattle.message.proofs.Laws.Framed.{leaves-same, leaves-nothing}
-use Rattle.message.specs.Message.{writeMessage}
+use mathlib.Core.Path.{sym, _∙_}
+use Rattle.message.proofs.Laws.Kinds.{plain-type}
 use borrow.Author.Needs.{needs}
 use Rattle.message.proofs.message.write.Statement.{statement}
 use Rattle.message.proofs.message.write.Tie as tie
 
-fault-requires : tie.Need-fault-requires
-fault-requires c κs = search needs
+is-plain-requires : tie.Need-is-plain-requires
+is-plain-requires c κs = search needs
 
-refusal-requires : tie.Need-refusal-requires
-refusal-requires c κs = search needs
+plain-requires : tie.Need-plain-requires
+plain-requires c κs = search needs
 
-returns : tie.Need-returns
-unfolding writeMessage
-returns c =
-    let at = c .before .before in
+write-unless-requires : tie.Need-write-unless-requires
+write-unless-requires c κs =
+    let at = c .before .before .before in
     let a = at .before .before .before .args in
-    let d = a .«data» .now in
-    leaves-nothing (inRoom (length (a .out .now)) (writeMessage (a .kind) d)) (a .out .now) _
-    (ap (inRoom (length (a .out .now)))
-    (sym (then-faulty (a .kind) d _ (at .fault .ensures) (λ m. writeFrame (a .kind) d) _ (c .before .if1 .taken) (c .refusal .ensures))))
-
-write-requires : tie.Need-write-requires
-write-requires c κs = search needs
+    c .before .plain .ensures ∙ plain-type (a .kind) (a .«data» .now) (sym (at .is-plain .ensures) ∙ c .before .before .if1 .taken)
 
 same-length : tie.Need-same-length
 same-length c = search needs
 
+returns : tie.Need-returns
+returns c = search needs
+
+fault-requires : tie.Need-fault-requires
+fault-requires c κs = search needs
+
+write-unless-requires-2 : tie.Need-write-unless-requires-2
+write-unless-requires-2 c κs = search needs
+
+same-length-2 : tie.Need-same-length-2
+same-length-2 c = search needs
+
 returns-2 : tie.Need-returns-2
-unfolding writeMessage
-returns-2 c =
-    let at = c .before .before .before .before .before in
-    let a = at .before .before .before .args in
-    let d = a .«data» .now in
-    let room = length (a .out .now) in
-    leaves-same (inRoom room (writeMessage (a .kind) d)) (inRoom room (writeFrame (a .kind) d)) (a .out .now) _ _
-    (ap (inRoom room) (sym (then-faultless (a .kind) d _ (at .fault .ensures) (writeFrame (a .kind) d) (c .before .before .before .before .if1 .left))))
-    (c .before .before .write .ensures .0) (c .before .before .write .ensures .1)
+returns-2 c = search needs
 
 pub write-spec : {M : Type 1} → statement M
 write-spec =
     tie.close
-    (tie.spec fault-requires refusal-requires returns write-requires same-length returns-2)
+    (tie.spec
+    is-plain-requires
+    plain-requires
+    write-unless-requires
+    same-length
+    returns
+    fault-requires
+    write-unless-requires-2
+    same-length-2
+    returns-2)
