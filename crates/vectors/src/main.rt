@@ -1,31 +1,31 @@
 // Runs the vectors on standard input, a line for each: the name of a call, then what it is given, in hex. Prints each line with the
-// call's answer behind it. A line that starts with no such name, as a comment, is printed as it is.
-mod captures; // the listing
+// call's answer behind it. A line that starts with no such name, as a comment, is printed as it is. The calls are those of the C interface,
+// so an answer is a packed number.
 mod input; // lines, names and digits
-mod items; // the items of Omni-Link messages
 mod model; // the model thermostat, temperatures, cost words and the tally
 mod omnilink; // Omni-Link frames and messages
 mod omnistat2; // Omnistat2 messages
-mod output; // words, numbers and bytes
+mod output; // texts, numbers, bytes and answers
 mod patterns; // X-10 patterns
+mod writers; // the calls that write to lent memory
 
 ghost use Prim.Native.Nat.{_≤_};
 use input::MOST;
+use input::line_of;
 use input::starts;
-use output::line_of;
 use output::text;
 
 const STDIN: i32 = 0;
 
 // How many calls have a name.
-const CALLS: u8 = 17;
+const CALLS: u64 = 17;
 
 // The call whose digits are places.
-const READ_PLACES: u8 = 0;
+const READ_PLACES: u64 = 0;
 
 // The call that a line names, of names with a line for each, by its place there. Its answer follows on the line.
-fn named(line: &[u8], names: &[u8]) -> u8 {
-    let mut call: u8 = 0;
+fn named(line: &[u8], names: &[u8]) -> u64 {
+    let mut call = 0;
     while call < CALLS {
         if starts(line, line_of(names, call)) {
             text(b" =");
@@ -37,15 +37,15 @@ fn named(line: &[u8], names: &[u8]) -> u8 {
 }
 
 // The call that a line names, by its place among the answers below.
-fn call_of(line: &[u8]) -> u8 {
+fn call_of(line: &[u8]) -> u64 {
     named(
         line,
-        b"read places\nread frame\nwrite frame\nread message\nwrite message\nlisting\nat thermostat\nat host\nto thermostat\nto host\nstep\ntemperatures\ncost\ntally\nwrite unit\nwrite function\nwrite extended\n",
+        b"read places\nread frame\nread message\nat thermostat\nat host\nstep\ntemperatures\ncost\ntally\nlisting\nwrite unit\nwrite function\nwrite extended\nwrite frame\nwrite message\nto thermostat\nto host\n",
     )
 }
 
 // How many halves of a number a digit fills.
-fn halves(call: u8) -> usize
+fn halves(call: u64) -> usize
     ensures { λ r. ⌜ r ≤ 2 ⌝ }
 {
     if call == READ_PLACES {
@@ -55,25 +55,18 @@ fn halves(call: u8) -> usize
 }
 
 // The answer of a call to bytes, or to places.
-fn answer_call(call: u8, bytes: &[u8]) {
+fn answer_call(call: u64, bytes: &[u8]) {
     match call {
         READ_PLACES => patterns::read(bytes),
         1 => omnilink::read_frame(bytes),
-        2 => omnilink::write_frame(bytes),
-        3 => omnilink::read_message(bytes),
-        4 => omnilink::write_message(bytes),
-        5 => captures::list(bytes),
-        6 => omnistat2::at_thermostat(bytes),
-        7 => omnistat2::at_host(bytes),
-        8 => omnistat2::to_thermostat(bytes),
-        9 => omnistat2::to_host(bytes),
-        10 => model::step(bytes),
-        11 => model::temperatures(),
-        12 => model::cost(bytes),
-        13 => model::tally(bytes),
-        14 => patterns::write_unit(bytes),
-        15 => patterns::write_function(bytes),
-        16 => patterns::write_extended(bytes),
+        2 => omnilink::read_message(bytes),
+        3 => omnistat2::at_thermostat(bytes),
+        4 => omnistat2::at_host(bytes),
+        5 => model::step(bytes),
+        6 => model::temperatures(),
+        7 => model::cost(bytes),
+        8 => model::tally(bytes),
+        9..=16 => writers::write(call, bytes),
         _ => {}
     }
 }

@@ -1,124 +1,102 @@
 // Omni-Link frames and messages.
-use crate::items::COMMAND;
-use crate::items::EVENTS;
-use crate::items::LOG_ENTRY;
-use crate::items::TEXT_MESSAGES;
-use crate::items::ZONES;
-use crate::items::items;
-use crate::output;
-use crate::output::Form;
-use crate::output::refused;
-use crate::output::small;
-use crate::output::text;
-use crate::output::word;
-use link::frame::FrameRead;
-use message::message::Fixed;
-use message::message::Message;
-use message::message::MessageRead;
+use crate::input::line_of;
+use crate::input::long;
+use crate::input::part;
+use crate::input::rest;
+use crate::output::above;
+use crate::output::field;
+use crate::output::fill;
+use crate::output::show;
+use crate::output::show_as;
+use crate::output::show_listed;
 
-// More than a frame has.
-const ROOM: usize = 80;
+// The types of messages that have items.
+const LOG_ENTRY: u64 = 0x0E;
 
-fn data(bytes: &[u8]) {
-    if bytes.len() == 0 {
-        text(b", no data");
-    } else {
-        text(b", data");
-        output::bytes(bytes);
-    }
-}
+const COMMAND: u64 = 0x0F;
+
+const ZONES: u64 = 0x16;
+
+const EVENTS: u64 = 0x23;
+
+// The bytes before the data bytes.
+const HEAD: usize = 3;
 
 pub(crate) fn read_frame(bytes: &[u8]) {
-    match link::frame::read(bytes) {
-        FrameRead::Accepted { kind, count } => {
-            text(b" type ");
-            output::hex(kind);
-            data(link::frame::data(bytes, count));
-        }
-        FrameRead::Refused(r) => refused(r),
-    }
+    let r = host::omnilink::omnilink_frame_read(bytes);
+    let data = part(bytes, HEAD, field(above(r), 1) as usize);
+    show_listed(b" type #0, no data", b" type #0, data$", r, data);
 }
 
-// Type and data bytes.
-pub(crate) fn write_frame(bytes: &[u8]) {
-    if bytes.len() == 0 {
-        return;
-    }
-    let mut out = [0u8; ROOM];
-    let w = link::frame::write(bytes[0], &bytes[1..], &mut out);
-    output::written(w, Form::Hex, &out);
-}
-
-// Type and data bytes.
-pub(crate) fn write_message(bytes: &[u8]) {
-    if bytes.len() == 0 {
-        return;
-    }
-    let mut out = [0u8; ROOM];
-    let w = message::message::write(bytes[0], &bytes[1..], &mut out);
-    output::written(w, Form::Hex, &out);
-}
-
-// A message of this name, and its items.
-fn named(name: u8, bytes: &[u8], count: u8) {
-    word(
-        b" acknowledge\n negative acknowledge\n upload event log\n request system information\n request system status\n logout\n request system events\n\n\n log entry\n\n zones\n events\n text messages\n",
-        name,
+// The name of a type, in a line for each type from 00 on. The fields are the data bytes and, lowest, the two of the CRC.
+fn name(kind: u64, fields: u64) {
+    fill(
+        line_of(
+            b"\n\n\n\n\n acknowledge\n negative acknowledge\n\n\n\n\n\n\n upload event log\n log entry\n\n\n request system information\n\n request system status\n\n request zones %3 %2\n zones\n\n\n\n\n\n\n\n\n\n login %5 %4 %3 %2\n logout\n request system events\n events\n\n text messages\n",
+            kind,
+        ),
+        fields,
+        b"",
     );
-    items(name, bytes, count as usize);
 }
 
-fn two(first: u8, second: u8) {
-    text(b" ");
-    small(first);
-    text(b" ");
-    small(second);
-}
-
-fn login(first: u8, second: u8, third: u8, fourth: u8) {
-    text(b" login");
-    two(first, second);
-    two(third, fourth);
-}
-
-fn zone_request(first: u8, last: u8) {
-    text(b" request zones");
-    two(first, last);
-}
-
-fn fixed(f: Fixed, bytes: &[u8]) {
-    match f {
-        Fixed::Acknowledge => named(0, bytes, 0),
-        Fixed::NegativeAcknowledge => named(1, bytes, 0),
-        Fixed::UploadEventLog => named(2, bytes, 0),
-        Fixed::RequestSystemInformation => named(3, bytes, 0),
-        Fixed::RequestSystemStatus => named(4, bytes, 0),
-        Fixed::Logout => named(5, bytes, 0),
-        Fixed::RequestSystemEvents => named(6, bytes, 0),
-        Fixed::Login {
-            first,
-            second,
-            third,
-            fourth,
-        } => login(first, second, third, fourth),
-        Fixed::ZoneRequest { first, last } => zone_request(first, last),
-        Fixed::LogEntry(_) => named(LOG_ENTRY, bytes, 9),
-        Fixed::Command(_) => named(COMMAND, bytes, 1),
-    }
-}
-
-fn show(m: Message, bytes: &[u8]) {
-    match m {
-        Message::Fixed(f) => fixed(f, bytes),
-        Message::ZoneStatus { count } => named(ZONES, bytes, count),
-        Message::Events { count } => named(EVENTS, bytes, count),
-        Message::MessageStatus { count } => named(TEXT_MESSAGES, bytes, count),
+// How many items a message has: the fields of a log entry, the one command, or so many as it was answered.
+fn items_of(kind: u64, count: u64) -> usize {
+    match kind {
+        LOG_ENTRY => 9,
+        COMMAND => 1,
+        _ => count as usize,
     }
 }
 
 pub(crate) fn read_message(bytes: &[u8]) {
-    match message::message::read(bytes) {
-        MessageRead::Accepted(m) => show(m, bytes),
-        MessageRead::Refused(r) => refused(r),
+    let r = host::messages::omnilink_message_read(bytes);
+    show(b"", r, b"");
+    let kind = field(above(r), 0);
+    name(kind, long(rest(bytes, HEAD)));
+    items(kind, bytes, items_of(kind, field(above(r), 1)));
+}
+
+fn items(kind: u64, bytes: &[u8], count: usize) {
+    let mut i = 0;
+    while i < count {
+        item(kind, bytes, i);
+        i += 1;
     }
+}
+
+fn item(kind: u64, bytes: &[u8], i: usize) {
+    match kind {
+        LOG_ENTRY => show(b" &0", host::messages::omnilink_log_entry(bytes, i), b""),
+        COMMAND => command(host::messages::omnilink_command(bytes)),
+        ZONES => zone(host::messages::omnilink_zone(bytes, i)),
+        EVENTS => show(b" #1#0", host::messages::omnilink_event(bytes, i), b""),
+        _ => text_message(host::messages::omnilink_text_message(bytes, i)),
+    }
+}
+
+fn command(r: u64) {
+    show_as(
+        b" off unit &3\n on unit &3\n all off area &3\n all on area &3\n\n\n\n\n\n lighting level unit &3, %2 percent\n decrement counter &3\n increment counter &3\n set counter &3, %2 as value\n",
+        0,
+        r,
+    );
+    show_as(b"\n, %2 seconds\n, %2 minutes\n, %2 hours\n", 1, r);
+}
+
+fn zone(r: u64) {
+    show_as(b"; secure\n; not ready\n; trouble\n", 0, r);
+    show_as(b", secure\n, tripped\n, reset\n", 1, r);
+    show_as(
+        b", disarmed\n, armed\n, bypassed by user\n, bypassed by system\n",
+        2,
+        r,
+    );
+    show_as(b", loop %4\n, unacknowledged trouble, loop %4\n", 3, r);
+}
+
+// d displayed, n not acknowledged.
+fn text_message(r: u64) {
+    show_as(b" -\n d\n", 0, r);
+    show_as(b"-\nn\n", 1, r);
 }

@@ -1,21 +1,9 @@
-// Printing answers: words, numbers, bytes and places.
-use crate::input::line_end;
-use answer::Refusal;
-use answer::Written;
-ghost use Prim.Native.Nat.{_<_, _≤_};
-ghost use lib.ListN.{length};
+// Printing texts, numbers, bytes and answers.
+use crate::input::line_of;
+use crate::input::part;
+use crate::input::wide;
 
 const STDOUT: i32 = 1;
-
-// How each byte of a list is printed.
-pub enum Form {
-    // A blank and two hex digits.
-    Hex,
-    // 0 or 1, with a blank between the parts of a pattern.
-    Place,
-    // The character.
-    Text,
-}
 
 pub(crate) fn text(words: &[u8]) {
     io::write_all(STDOUT, words);
@@ -30,126 +18,99 @@ pub(crate) fn number(n: u64) {
     io::print_decimal(STDOUT, n);
 }
 
-pub(crate) fn small(n: u8) {
-    number(n as u64);
+// Character n of a row.
+fn one_of(row: &[u8; 16], n: u64) {
+    let at = (n % 16) as usize;
+    character(row[at]);
 }
 
-fn hex_digit(d: u8) -> u8
-    requires { ⌜ d < 16 ⌝ }
-{
-    if d < 10 {
-        return b'0' + d;
-    }
-    b'A' - 10 + d
+fn hex(b: u64) {
+    one_of(b"0123456789ABCDEF", b / 16);
+    one_of(b"0123456789ABCDEF", b);
 }
 
-pub(crate) fn hex(b: u8) {
-    character(hex_digit(b / 16));
-    character(hex_digit(b % 16));
-}
-
-pub(crate) fn letter(house: u8) {
-    character(b'A' + house % 16);
-}
-
-// A number of tenths, with one decimal.
-pub(crate) fn tenths(n: u64) {
-    number(n / 10);
-    text(b".");
-    number(n % 10);
-}
-
-// Whether a part of a pattern ends before this place: start, house, key, unit, data.
-fn parts_at(i: usize) -> bool {
-    match i {
-        4 | 12 | 22 | 30 | 46 => true,
-        _ => false,
-    }
-}
-
-fn place(b: u8, i: usize) {
-    if parts_at(i) {
-        text(b" ");
-    }
-    small(b);
-}
-
-fn item(form: Form, b: u8, i: usize) {
-    match form {
-        Form::Hex => {
-            text(b" ");
-            hex(b);
-        }
-        Form::Place => {
-            place(b, i);
-        }
-        Form::Text => {
-            character(b);
-        }
-    }
-}
-
-// Prints the first bytes of a slice.
-pub(crate) fn list(form: Form, bytes: &[u8], count: usize) {
+// Bytes in hex, each after a blank.
+fn list(bytes: &[u8]) {
     let mut i = 0;
     while i < bytes.len() {
-        if i < count {
-            item(form, bytes[i], i);
-        }
+        text(b" ");
+        hex(wide(bytes[i]));
         i += 1;
     }
 }
 
-// Bytes in hex, each after a blank.
-pub(crate) fn bytes(from: &[u8]) {
-    list(Form::Hex, from, from.len());
+// The fields from the one on that starts i bytes above the first; i is a number or its digit.
+fn fields_from(fields: u64, i: u8) -> u64 {
+    fields >> (i % 8 * 8)
 }
 
-pub(crate) fn refusal(n: u64) {
-    text(b" refused ");
-    number(n);
+// The byte of the fields that starts i bytes above the first.
+pub(crate) fn field(fields: u64, i: u8) -> u64 {
+    fields_from(fields, i) % 256
 }
 
-pub(crate) fn refused(r: Refusal) {
-    refusal(answer::number(r));
-}
-
-// Where word n starts, of words with a line for each; the end where there are not so many.
-fn word_at(words: &[u8], n: u8) -> usize
-    ensures { λ r. ⌜ r ≤ length (now (words .entry)) ⌝ }
-{
-    let mut at = 0;
-    let mut left = n;
-    while left > 0 {
-        let end = line_end(words, at);
-        if end == words.len() {
-            return end;
-        }
-        at = end + 1;
-        left -= 1;
+// A character of a form, with the one before it.
+fn filled(before: u8, c: u8, fields: u64, values: &[u8]) {
+    match before {
+        b'%' => number(field(fields, c)),
+        b'#' => hex(field(fields, c)),
+        b'&' => number(fields_from(fields, c) % 65536),
+        _ => plain(c, fields, values),
     }
-    at
 }
 
-// Word n, of words with a line for each.
-pub(crate) fn line_of(words: &[u8], n: u8) -> &[u8] {
-    let at = word_at(words, n);
-    let end = line_end(words, at);
-    &words[at..end]
-}
-
-pub(crate) fn word(words: &[u8], n: u8) {
-    text(line_of(words, n));
-}
-
-// What a writer answered and wrote.
-pub(crate) fn written(w: Written, form: Form, out: &[u8]) {
-    match w {
-        Written::Count(n) => {
-            list(form, out, n as usize);
-        }
-        Written::Refused(r) => {
-            refused(r);
-        }
+fn plain(c: u8, fields: u64, values: &[u8]) {
+    match c {
+        b'%' | b'#' | b'&' => {}
+        b'*' => number(fields),
+        b'@' => one_of(b"ABCDEFGHIJKLMNOP", field(fields, 1)),
+        b'$' => list(values),
+        _ => character(c),
     }
+}
+
+// Prints a form: %N is the byte that starts N bytes above the first field, in decimal, #N the same in hex, &N the 16 bits from there, * all
+// fields as one number, $ the values in hex.
+pub(crate) fn fill(form: &[u8], fields: u64, values: &[u8]) {
+    let mut before = b' ';
+    let mut i = 0;
+    while i < form.len() {
+        let c = form[i];
+        filled(before, c, fields, values);
+        before = c;
+        i += 1;
+    }
+}
+
+// What is above the answer number.
+pub(crate) fn above(answer: u64) -> u64 {
+    answer / 256
+}
+
+// An answer: its fields in a form, or the number of a refusal.
+pub(crate) fn show(form: &[u8], answer: u64, values: &[u8]) {
+    if answer % 256 == 0 {
+        fill(form, above(answer), values);
+    } else {
+        fill(b" refused *", answer, values);
+    }
+}
+
+// The same, in one of the forms that have a line each, by the byte that starts i bytes above the first field.
+pub(crate) fn show_as(forms: &[u8], i: u8, answer: u64) {
+    show(line_of(forms, field(above(answer), i)), answer, b"");
+}
+
+// The same, in one of two forms: where there are no values, and where there are.
+pub(crate) fn show_listed(none: &[u8], some: &[u8], answer: u64, values: &[u8]) {
+    if values.len() == 0 {
+        show(none, answer, values);
+    } else {
+        show(some, answer, values);
+    }
+}
+
+// The bytes that a writer wrote.
+pub(crate) fn written(answer: u64, out: &[u8]) -> &[u8] {
+    part(out, 0, above(answer) as usize)
 }

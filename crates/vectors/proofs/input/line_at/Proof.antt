@@ -1,14 +1,14 @@
 use borrow.Author.Needs.{needs}
 use Prim.Native.Nat.{_≤_}
 use lib.ListN.{length}
-use Rattle.vectors.proofs.output.word_at.Statement.{statement}
-use Rattle.vectors.proofs.output.word_at.Tie as tie
+use Rattle.vectors.proofs.input.line_at.Statement.{statement}
+use Rattle.vectors.proofs.input.line_at.Tie as tie
 
 abbrev Inv-loop : tie.InvT-loop
-Inv-loop words n at₀ left₀ at left = at ≤ length words
+Inv-loop text n at₀ left₀ at left = at ≤ length text
 
 abbrev μ-loop : tie.MeasureT-loop
-μ-loop words n at₀ left₀ at left = left
+μ-loop text n at₀ left₀ at left = left
 
 loop-holds : tie.Need-loop-holds Inv-loop μ-loop
 loop-holds c = search needs
@@ -34,8 +34,8 @@ loop-again c = search needs
 returns-2 : tie.Need-returns-2 Inv-loop μ-loop
 returns-2 c = search needs
 
-pub word-at-spec : {M : Type 1} → statement M
-word-at-spec =
+pub line-at-spec : {M : Type 1} → statement M
+line-at-spec =
     tie.close
     (tie.spec
     Inv-loop
