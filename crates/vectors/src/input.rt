@@ -24,7 +24,7 @@ pub(crate) fn line_end(text: &[u8], at: usize) -> usize
     end
 }
 
-// Where line n of a text starts; the end where there are not so many.
+// Where line n of a text starts; the last where there are not so many.
 fn line_at(text: &[u8], n: u64) -> usize
     ensures { λ r. ⌜ r ≤ length (now (text .entry)) ⌝ }
 {
@@ -33,7 +33,7 @@ fn line_at(text: &[u8], n: u64) -> usize
     while left > 0 {
         let end = line_end(text, at);
         if end == text.len() {
-            return end;
+            return at;
         }
         at = end + 1;
         left -= 1;
@@ -41,7 +41,7 @@ fn line_at(text: &[u8], n: u64) -> usize
     at
 }
 
-// Line n of a text.
+// Line n of a text; the last where there are not so many.
 pub(crate) fn line_of(text: &[u8], n: u64) -> &[u8] {
     let at = line_at(text, n);
     let end = line_end(text, at);
@@ -52,10 +52,7 @@ pub(crate) fn line_of(text: &[u8], n: u64) -> &[u8] {
 pub(crate) fn starts(line: &[u8], name: &[u8]) -> bool {
     let mut i = 0;
     while i < name.len() {
-        if line.len() <= i {
-            return false;
-        }
-        if line[i] != name[i] {
+        if byte(line, i) != name[i] {
             return false;
         }
         i += 1;

@@ -1,13 +1,14 @@
 // Runs the vectors on standard input, a line for each: the name of a call, then what it is given, in hex. Prints each line with the
 // call's answer behind it. A line that starts with no such name, as a comment, is printed as it is. The calls are those of the C interface,
 // so an answer is a packed number.
+mod captures; // the listing
 mod input; // lines, names and digits
 mod model; // the model thermostat, temperatures, cost words and the tally
 mod omnilink; // Omni-Link frames and messages
-mod omnistat2; // Omnistat2 messages
+mod omnistat2; // Omnistat2 messages, read
 mod output; // texts, numbers, bytes and answers
 mod patterns; // X-10 patterns
-mod writers; // the calls that write to lent memory
+mod writers; // the calls that write frames and messages
 
 ghost use Prim.Native.Nat.{_≤_};
 use input::MOST;
@@ -66,18 +67,24 @@ fn answer_call(call: u64, bytes: &[u8]) {
         6 => model::temperatures(),
         7 => model::cost(bytes),
         8 => model::tally(bytes),
-        9..=16 => writers::write(call, bytes),
+        9 => captures::list(bytes),
+        10..=12 => patterns::write(call, bytes),
+        13..=16 => writers::write(call, bytes),
         _ => {}
     }
+}
+
+// The answer of a call to what a line gives.
+fn answer_given(call: u64, line: &[u8]) {
+    let mut bytes = [0u8; MOST];
+    let n = input::digits(line, halves(call), &mut bytes);
+    answer_call(call, &bytes[..n]);
 }
 
 // Prints a line and the answer of the call that it names.
 fn answer(line: &[u8]) {
     text(line);
-    let call = call_of(line);
-    let mut bytes = [0u8; MOST];
-    let n = input::digits(line, halves(call), &mut bytes);
-    answer_call(call, &bytes[..n]);
+    answer_given(call_of(line), line);
     text(b"\n");
 }
 

@@ -4,12 +4,10 @@ use crate::input::long;
 use crate::input::part;
 use crate::input::rest;
 use crate::input::wide;
-use crate::output::fill;
+use crate::output::fill_in;
 use crate::output::number;
 use crate::output::show;
-use crate::output::show_listed;
 use crate::output::text;
-use crate::output::written;
 use tally::Added;
 use tally::Tally;
 ghost use mathlib.Core.Path.{_≡_};
@@ -36,8 +34,10 @@ fn numbered() -> [u8; REGISTERS] {
 // A register of such a map, where it no longer holds its number.
 fn changed(register: usize, byte: u8) {
     if byte as usize != register {
-        fill(b", register *", register as u64, b"");
-        fill(b" is *", wide(byte), b"");
+        fill_in(
+            b", register %0 is %1",
+            register as u64 % 256 + byte as u64 * 256,
+        );
     }
 }
 
@@ -49,12 +49,17 @@ fn changes(map: &[u8]) {
     }
 }
 
+// A step over a map, and what it answered and sent.
+fn step_on(map: &mut [u8], bytes: &[u8]) {
+    let mut out = [0u8; ROOM];
+    let r = host::model::thermostat_step(byte(bytes, 0), map, rest(bytes, 1), &mut out);
+    show(b"[1 silence]{1 reply>]", r, &out);
+}
+
 // Own address, then the message. The map starts with each register holding its number.
 pub(crate) fn step(bytes: &[u8]) {
     let mut map = numbered();
-    let mut out = [0u8; ROOM];
-    let r = host::model::thermostat_step(byte(bytes, 0), &mut map, rest(bytes, 1), &mut out);
-    show_listed(b" silence", b" reply$", r, written(r, &out));
+    step_on(&mut map, bytes);
     changes(&map);
 }
 
@@ -68,25 +73,23 @@ fn whole(x: f64) -> u64 {
     0
 }
 
-// A number of tenths, with one decimal, after a blank and its sign.
-fn tenths(sign: &[u8], x: f64) {
+// A number of tenths in a form of its whole part and of its decimal.
+fn tenths(form: &[u8], x: f64) {
     let n = whole(x);
-    text(sign);
-    number(n / 10);
-    fill(b".*", n % 10, b"");
+    fill_in(form, n / 10 + n % 10 * 65536);
 }
 
 fn signed_tenths(x: f64) {
     if x < 0.0 {
-        tenths(b" -", 0.0 - x);
+        tenths(b" -&0.%2", 0.0 - x);
     } else {
-        tenths(b" ", x);
+        tenths(b" &0.%2", x);
     }
 }
 
 // A line of the temperature table: byte, degrees Celsius, degrees Fahrenheit.
 fn temperature(byte: u8) {
-    fill(b"\n*", wide(byte), b"");
+    fill_in(b"\n%0", wide(byte));
     let degrees = std::num::f32_to_f64_with_nan(host::model::temperature_celsius(byte));
     signed_tenths(degrees * 10.0);
     signed_tenths(host::model::temperature_fahrenheit_tenths(byte) as f64);
@@ -105,16 +108,13 @@ pub(crate) fn temperatures() {
 // A cost word, high byte first.
 fn cost_word(bytes: &[u8]) -> u16 {
     let word = long(bytes) % 65536;
-    fill(b" word *,", word, b"");
+    fill_in(b" word &0,", word);
     word as u16
 }
 
 pub(crate) fn cost(bytes: &[u8]) {
-    show(
-        b" millionths *",
-        host::cost::cost_millionths(cost_word(bytes)),
-        b"",
-    );
+    let r = host::cost::cost_millionths(cost_word(bytes));
+    show(b" millionths *", r, bytes);
 }
 
 // The answer of a tally with this total to a word.
@@ -125,11 +125,20 @@ fn tallied(total: u64, word: u16) -> Added
     tally::add(&mut t, word)
 }
 
+fn total(n: u64) {
+    text(b" total ");
+    number(n);
+}
+
+fn added(a: Added) {
+    match a {
+        Added::Total(n) => total(n),
+        Added::Refused(r) => fill_in(b" refused %0", answer::number(r)),
+    }
+}
+
 // A total of eight bytes, then a cost word.
 pub(crate) fn tally(bytes: &[u8]) {
     let word = cost_word(rest(bytes, 8));
-    match tallied(long(part(bytes, 0, 8)), word) {
-        Added::Total(n) => fill(b" total *", n, b""),
-        Added::Refused(r) => show(b"", answer::number(r), b""),
-    }
+    added(tallied(long(part(bytes, 0, 8)), word));
 }

@@ -1,14 +1,6 @@
 // Omni-Link frames and messages.
-use crate::input::line_of;
-use crate::input::long;
-use crate::input::part;
-use crate::input::rest;
-use crate::output::above;
 use crate::output::field;
-use crate::output::fill;
 use crate::output::show;
-use crate::output::show_as;
-use crate::output::show_listed;
 
 // The types of messages that have items.
 const LOG_ENTRY: u64 = 0x0E;
@@ -19,24 +11,17 @@ const ZONES: u64 = 0x16;
 
 const EVENTS: u64 = 0x23;
 
-// The bytes before the data bytes.
-const HEAD: usize = 3;
-
 pub(crate) fn read_frame(bytes: &[u8]) {
     let r = host::omnilink::omnilink_frame_read(bytes);
-    let data = part(bytes, HEAD, field(above(r), 1) as usize);
-    show_listed(b" type #0, no data", b" type #0, data$", r, data);
+    show(b" type #1, [2no ]data$2", r, bytes);
 }
 
-// The name of a type, in a line for each type from 00 on. The fields are the data bytes and, lowest, the two of the CRC.
-fn name(kind: u64, fields: u64) {
-    fill(
-        line_of(
-            b"\n\n\n\n\n acknowledge\n negative acknowledge\n\n\n\n\n\n\n upload event log\n log entry\n\n\n request system information\n\n request system status\n\n request zones %3 %2\n zones\n\n\n\n\n\n\n\n\n\n login %5 %4 %3 %2\n logout\n request system events\n events\n\n text messages\n",
-            kind,
-        ),
-        fields,
-        b"",
+// The name of a message, by its type.
+fn name(r: u64, bytes: &[u8]) {
+    show(
+        b"[1||||| acknowledge| negative acknowledge||||||| upload event log| log entry||| request system information|| request system status|| request zones ^3 ^4| zones|||||||||| login ^3 ^4 ^5 ^6| logout| request system events| events|| text messages]",
+        r,
+        bytes,
     );
 }
 
@@ -51,10 +36,9 @@ fn items_of(kind: u64, count: u64) -> usize {
 
 pub(crate) fn read_message(bytes: &[u8]) {
     let r = host::messages::omnilink_message_read(bytes);
-    show(b"", r, b"");
-    let kind = field(above(r), 0);
-    name(kind, long(rest(bytes, HEAD)));
-    items(kind, bytes, items_of(kind, field(above(r), 1)));
+    name(r, bytes);
+    let kind = field(r, 1);
+    items(kind, bytes, items_of(kind, field(r, 2)));
 }
 
 fn items(kind: u64, bytes: &[u8], count: usize) {
@@ -67,36 +51,30 @@ fn items(kind: u64, bytes: &[u8], count: usize) {
 
 fn item(kind: u64, bytes: &[u8], i: usize) {
     match kind {
-        LOG_ENTRY => show(b" &0", host::messages::omnilink_log_entry(bytes, i), b""),
-        COMMAND => command(host::messages::omnilink_command(bytes)),
-        ZONES => zone(host::messages::omnilink_zone(bytes, i)),
-        EVENTS => show(b" #1#0", host::messages::omnilink_event(bytes, i), b""),
-        _ => text_message(host::messages::omnilink_text_message(bytes, i)),
+        LOG_ENTRY => show(b" &1", host::messages::omnilink_log_entry(bytes, i), bytes),
+        COMMAND => command(host::messages::omnilink_command(bytes), bytes),
+        ZONES => zone(host::messages::omnilink_zone(bytes, i), bytes),
+        EVENTS => show(b" #2#1", host::messages::omnilink_event(bytes, i), bytes),
+        _ => show(
+            b" [1-|d][2-|n]",
+            host::messages::omnilink_text_message(bytes, i),
+            bytes,
+        ),
     }
 }
 
-fn command(r: u64) {
-    show_as(
-        b" off unit &3\n on unit &3\n all off area &3\n all on area &3\n\n\n\n\n\n lighting level unit &3, %2 percent\n decrement counter &3\n increment counter &3\n set counter &3, %2 as value\n",
-        0,
+fn command(r: u64, bytes: &[u8]) {
+    show(
+        b"[1 off unit| on unit| all off area| all on area|||||| lighting level unit| decrement counter| increment counter| set counter] &4[1|||||||||, %3 percent|||, %3 as value][2|, %3 seconds|, %3 minutes|, %3 hours]",
         r,
+        bytes,
     );
-    show_as(b"\n, %2 seconds\n, %2 minutes\n, %2 hours\n", 1, r);
 }
 
-fn zone(r: u64) {
-    show_as(b"; secure\n; not ready\n; trouble\n", 0, r);
-    show_as(b", secure\n, tripped\n, reset\n", 1, r);
-    show_as(
-        b", disarmed\n, armed\n, bypassed by user\n, bypassed by system\n",
-        2,
+fn zone(r: u64, bytes: &[u8]) {
+    show(
+        b"; [1secure|not ready|trouble], [2secure|tripped|reset], [3disarmed|armed|bypassed by user|bypassed by system]{4, unacknowledged trouble], loop %5",
         r,
+        bytes,
     );
-    show_as(b", loop %4\n, unacknowledged trouble, loop %4\n", 3, r);
-}
-
-// d displayed, n not acknowledged.
-fn text_message(r: u64) {
-    show_as(b" -\n d\n", 0, r);
-    show_as(b"-\nn\n", 1, r);
 }

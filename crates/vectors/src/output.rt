@@ -1,9 +1,12 @@
 // Printing texts, numbers, bytes and answers.
-use crate::input::line_of;
+use crate::input::byte;
 use crate::input::part;
 use crate::input::wide;
 
 const STDOUT: i32 = 1;
+
+// More than the choices that a form has.
+const PASSED: u64 = 1000;
 
 pub(crate) fn text(words: &[u8]) {
     io::write_all(STDOUT, words);
@@ -18,99 +21,137 @@ pub(crate) fn number(n: u64) {
     io::print_decimal(STDOUT, n);
 }
 
-// Character n of a row.
-fn one_of(row: &[u8; 16], n: u64) {
-    let at = (n % 16) as usize;
-    character(row[at]);
+// A hex digit, and on past F.
+fn letter(n: u64) {
+    if n < 10 {
+        number(n);
+    } else {
+        character(b'A' + ((n - 10) % 26) as u8);
+    }
 }
 
 fn hex(b: u64) {
-    one_of(b"0123456789ABCDEF", b / 16);
-    one_of(b"0123456789ABCDEF", b);
+    letter(b / 16);
+    letter(b % 16);
+}
+
+fn item(b: u8) {
+    character(b' ');
+    hex(wide(b));
 }
 
 // Bytes in hex, each after a blank.
 fn list(bytes: &[u8]) {
     let mut i = 0;
     while i < bytes.len() {
-        text(b" ");
-        hex(wide(bytes[i]));
+        item(bytes[i]);
         i += 1;
     }
 }
 
-// The fields from the one on that starts i bytes above the first; i is a number or its digit.
-fn fields_from(fields: u64, i: u8) -> u64 {
-    fields >> (i % 8 * 8)
+// An answer from its byte i on; i is a number or its digit.
+fn from(answer: u64, i: u8) -> u64 {
+    answer >> (i % 8 * 8)
 }
 
-// The byte of the fields that starts i bytes above the first.
-pub(crate) fn field(fields: u64, i: u8) -> u64 {
-    fields_from(fields, i) % 256
+// Byte i of an answer. Byte 0 is the answer number, and the fields are above it.
+pub(crate) fn field(answer: u64, i: u8) -> u64 {
+    from(answer, i) % 256
 }
 
-// A character of a form, with the one before it.
-fn filled(before: u8, c: u8, fields: u64, values: &[u8]) {
-    match before {
-        b'%' => number(field(fields, c)),
-        b'#' => hex(field(fields, c)),
-        b'&' => number(fields_from(fields, c) % 65536),
-        _ => plain(c, fields, values),
-    }
+fn values(bytes: &[u8], at: usize, count: u64) {
+    list(part(bytes, at, count as usize));
 }
 
-fn plain(c: u8, fields: u64, values: &[u8]) {
+// A character of a form that stands behind no mark: itself, but for the marks.
+fn plain(c: u8, answer: u64, bytes: &[u8]) {
     match c {
-        b'%' | b'#' | b'&' => {}
-        b'*' => number(fields),
-        b'@' => one_of(b"ABCDEFGHIJKLMNOP", field(fields, 1)),
-        b'$' => list(values),
+        b'%' | b'#' | b'&' | b'^' | b'$' | b'!' | b'[' | b'{' | b'|' | b']' => {}
+        b'*' => number(answer / 256),
+        b'@' => letter(10 + field(answer, 2) % 16),
+        b'>' => values(bytes, 0, answer / 256),
         _ => character(c),
     }
 }
 
-// Prints a form: %N is the byte that starts N bytes above the first field, in decimal, #N the same in hex, &N the 16 bits from there, * all
-// fields as one number, $ the values in hex.
-pub(crate) fn fill(form: &[u8], fields: u64, values: &[u8]) {
+// A character of a form, behind the one before it, if that is a mark of bytes.
+fn listed(before: u8, c: u8, answer: u64, bytes: &[u8]) {
+    match before {
+        b'^' => number(wide(byte(bytes, (c % 8) as usize))),
+        b'$' => values(bytes, 3, field(answer, c)),
+        b'!' => values(bytes, 2, field(answer, c)),
+        b'[' | b'{' => {}
+        _ => plain(c, answer, bytes),
+    }
+}
+
+// A character of a form, behind the one before it.
+fn filled(before: u8, c: u8, answer: u64, bytes: &[u8]) {
+    match before {
+        b'%' => number(field(answer, c)),
+        b'#' => hex(field(answer, c)),
+        b'&' => number(from(answer, c) % 65536),
+        _ => listed(before, c, answer, bytes),
+    }
+}
+
+// How many choices of a form are left to pass before it prints again.
+fn opened(left: u64, before: u8, n: u64) -> u64 {
+    match before {
+        b'[' => n,
+        b'{' => {
+            if n == 0 {
+                return 1;
+            }
+            0
+        }
+        _ => left,
+    }
+}
+
+// The same, at a character.
+fn passed(left: u64, before: u8, c: u8, answer: u64) -> u64 {
+    match c {
+        b'|' => {
+            if left == 0 {
+                return PASSED;
+            }
+            left - 1
+        }
+        b']' => 0,
+        _ => opened(left, before, field(answer, c)),
+    }
+}
+
+// Prints a form of an answer to bytes.
+//   %N byte N of the answer in decimal, #N in hex, &N the 16 bits from there on; * all above the answer number; @ byte 2, the letter of a house
+//   ^N byte N of the bytes; $N and !N as many of them as byte N of the answer says, from 3 and from 2 on; > as many as are written
+//   [N..|..] the choice that byte N of the answer numbers, from 0 on; {N..] what is printed unless that is 0
+fn fill(form: &[u8], answer: u64, bytes: &[u8]) {
     let mut before = b' ';
+    let mut left = 0;
     let mut i = 0;
     while i < form.len() {
         let c = form[i];
-        filled(before, c, fields, values);
+        left = passed(left, before, c, answer);
+        if left == 0 {
+            filled(before, c, answer, bytes);
+        }
         before = c;
         i += 1;
     }
 }
 
-// What is above the answer number.
-pub(crate) fn above(answer: u64) -> u64 {
-    answer / 256
+// Prints a form of a number, with none of the bytes.
+pub(crate) fn fill_in(form: &[u8], n: u64) {
+    fill(form, n, form);
 }
 
-// An answer: its fields in a form, or the number of a refusal.
-pub(crate) fn show(form: &[u8], answer: u64, values: &[u8]) {
+// An answer to bytes: in a form, or the number of a refusal.
+pub(crate) fn show(form: &[u8], answer: u64, bytes: &[u8]) {
     if answer % 256 == 0 {
-        fill(form, above(answer), values);
+        fill(form, answer, bytes);
     } else {
-        fill(b" refused *", answer, values);
+        fill(b" refused %0", answer, bytes);
     }
-}
-
-// The same, in one of the forms that have a line each, by the byte that starts i bytes above the first field.
-pub(crate) fn show_as(forms: &[u8], i: u8, answer: u64) {
-    show(line_of(forms, field(above(answer), i)), answer, b"");
-}
-
-// The same, in one of two forms: where there are no values, and where there are.
-pub(crate) fn show_listed(none: &[u8], some: &[u8], answer: u64, values: &[u8]) {
-    if values.len() == 0 {
-        show(none, answer, values);
-    } else {
-        show(some, answer, values);
-    }
-}
-
-// The bytes that a writer wrote.
-pub(crate) fn written(answer: u64, out: &[u8]) -> &[u8] {
-    part(out, 0, above(answer) as usize)
 }

@@ -1,35 +1,37 @@
 // X-10 patterns.
-use crate::input::line_of;
+use crate::input::byte;
+use crate::input::part;
 use crate::input::wide;
-use crate::output::above;
 use crate::output::field;
 use crate::output::number;
 use crate::output::show;
-use crate::output::show_as;
 use crate::output::text;
-use crate::output::written;
+
+// The places of an Extended 1.
+const ROOM: usize = 62;
 
 // The kind of a pattern with a function.
 const FUNCTION: u64 = 1;
 
-// The name of the function with a code, D8 D4 D2 D1.
-fn function(kind: u64, code: u64) {
-    if kind == FUNCTION {
-        text(line_of(
-            b" all units off\n all lights on\n on\n off\n dim\n bright\n all lights off\n\n hail request\n hail acknowledge\n\n\n\n status on\n status off\n status request\n",
-            code,
-        ));
+// The function with a code, D8 D4 D2 D1.
+fn function(r: u64) {
+    if field(r, 1) == FUNCTION {
+        show(
+            b"[3 all units off| all lights on| on| off| dim| bright| all lights off|| hail request| hail acknowledge|||| status on| status off| status request]",
+            r,
+            b"",
+        );
     }
 }
 
 pub(crate) fn read(places: &[u8]) {
     let r = host::patterns::x10_read(places);
-    show_as(
-        b" house @ unit %2\n house @\n house @ unit %2 data #3 command #4\n",
-        0,
+    show(
+        b" house @[1 unit %3|| unit %3 data #4 command #5]",
         r,
+        places,
     );
-    function(field(above(r), 0), field(above(r), 2));
+    function(r);
 }
 
 // A place, with a blank where a part of the pattern ends before it: start, house, key, unit, data.
@@ -49,13 +51,39 @@ fn list(places: &[u8]) {
     }
 }
 
-// The places that a writer wrote, and what is read from them.
-pub(crate) fn reads(r: u64, out: &[u8]) {
-    show(b" ", r, b"");
-    let places = written(r, out);
+// Places, and what is read from them.
+fn reads(places: &[u8]) {
     if places.len() > 0 {
         list(places);
         text(b" reads");
         read(places);
     }
+}
+
+// House, then unit, function code, or unit, data and command, by the call.
+fn write_to(call: u64, house: u8, key: u8, data: u8, command: u8, out: &mut [u8]) -> u64 {
+    match call {
+        10 => host::patterns::x10_write_unit(house, key, out),
+        11 => host::patterns::x10_write_function(house, key, out),
+        _ => host::patterns::x10_write_extended(house, key, data, command, out),
+    }
+}
+
+// What a writer answered and wrote.
+fn written(r: u64, out: &[u8]) {
+    show(b" ", r, out);
+    reads(part(out, 0, (r / 256) as usize));
+}
+
+pub(crate) fn write(call: u64, b: &[u8]) {
+    let mut out = [0u8; ROOM];
+    let r = write_to(
+        call,
+        byte(b, 0),
+        byte(b, 1),
+        byte(b, 2),
+        byte(b, 3),
+        &mut out,
+    );
+    written(r, &out);
 }

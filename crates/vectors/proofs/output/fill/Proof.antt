@@ -5,16 +5,19 @@ use Rattle.vectors.proofs.output.fill.Statement.{statement}
 use Rattle.vectors.proofs.output.fill.Tie as tie
 
 abbrev Inv-loop : tie.InvT-loop
-Inv-loop form fields values before₀ i₀ before i = Unit {0}
+Inv-loop form answer bytes before₀ left₀ i₀ before left i = Unit {0}
 
 abbrev μ-loop : tie.MeasureT-loop
-μ-loop form fields values before₀ i₀ before i = length form - i
+μ-loop form answer bytes before₀ left₀ i₀ before left i = length form - i
 
 loop-holds : tie.Need-loop-holds Inv-loop μ-loop
 loop-holds c = search needs
 
 shared-slice-read-c : tie.Need-shared-slice-read-c Inv-loop μ-loop
 shared-slice-read-c c = search needs
+
+passed-requires : tie.Need-passed-requires Inv-loop μ-loop
+passed-requires c κs = search needs
 
 filled-requires : tie.Need-filled-requires Inv-loop μ-loop
 filled-requires c κs = search needs
@@ -39,6 +42,7 @@ fill-spec =
     μ-loop
     loop-holds
     shared-slice-read-c
+    passed-requires
     filled-requires
     add-i
     loop-less
