@@ -24,30 +24,6 @@ pub(crate) fn line_end(text: &[u8], at: usize) -> usize
     end
 }
 
-// Where line n of a text starts; the last where there are not so many.
-fn line_at(text: &[u8], n: u64) -> usize
-    ensures { λ r. ⌜ r ≤ length (now (text .entry)) ⌝ }
-{
-    let mut at = 0;
-    let mut left = n;
-    while left > 0 {
-        let end = line_end(text, at);
-        if end == text.len() {
-            return at;
-        }
-        at = end + 1;
-        left -= 1;
-    }
-    at
-}
-
-// Line n of a text; the last where there are not so many.
-pub(crate) fn line_of(text: &[u8], n: u64) -> &[u8] {
-    let at = line_at(text, n);
-    let end = line_end(text, at);
-    &text[at..end]
-}
-
 // Whether a line starts with a name.
 pub(crate) fn starts(line: &[u8], name: &[u8]) -> bool {
     let mut i = 0;

@@ -12,26 +12,26 @@ mod writers; // the calls that write frames and messages
 
 ghost use Prim.Native.Nat.{_≤_};
 use input::MOST;
-use input::line_of;
+use input::line_end;
 use input::starts;
 use output::text;
 
 const STDIN: i32 = 0;
-
-// How many calls have a name.
-const CALLS: u64 = 17;
 
 // The call whose digits are places.
 const READ_PLACES: u64 = 0;
 
 // The call that a line names, of names with a line for each, by its place there. Its answer follows on the line.
 fn named(line: &[u8], names: &[u8]) -> u64 {
+    let mut at = 0;
     let mut call = 0;
-    while call < CALLS {
-        if starts(line, line_of(names, call)) {
+    while at < names.len() {
+        let end = line_end(names, at);
+        if starts(line, &names[at..end]) {
             text(b" =");
             return call;
         }
+        at = end + 1;
         call += 1;
     }
     call
@@ -92,7 +92,7 @@ fn answer(line: &[u8]) {
 fn run(lines: &[u8]) {
     let mut at = 0;
     while at < lines.len() {
-        let end = input::line_end(lines, at);
+        let end = line_end(lines, at);
         answer(&lines[at..end]);
         at = end + 1;
     }

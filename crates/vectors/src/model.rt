@@ -5,9 +5,7 @@ use crate::input::part;
 use crate::input::rest;
 use crate::input::wide;
 use crate::output::fill_in;
-use crate::output::number;
 use crate::output::show;
-use crate::output::text;
 use tally::Added;
 use tally::Tally;
 ghost use mathlib.Core.Path.{_≡_};
@@ -53,7 +51,7 @@ fn changes(map: &[u8]) {
 fn step_on(map: &mut [u8], bytes: &[u8]) {
     let mut out = [0u8; ROOM];
     let r = host::model::thermostat_step(byte(bytes, 0), map, rest(bytes, 1), &mut out);
-    show(b"[1 silence]{1 reply>]", r, &out);
+    show(b"{1 silence}~1 reply+1}", r, &out);
 }
 
 // Own address, then the message. The map starts with each register holding its number.
@@ -114,7 +112,7 @@ fn cost_word(bytes: &[u8]) -> u16 {
 
 pub(crate) fn cost(bytes: &[u8]) {
     let r = host::cost::cost_millionths(cost_word(bytes));
-    show(b" millionths *", r, bytes);
+    show(b" millionths *1", r, bytes);
 }
 
 // The answer of a tally with this total to a word.
@@ -125,14 +123,9 @@ fn tallied(total: u64, word: u16) -> Added
     tally::add(&mut t, word)
 }
 
-fn total(n: u64) {
-    text(b" total ");
-    number(n);
-}
-
 fn added(a: Added) {
     match a {
-        Added::Total(n) => total(n),
+        Added::Total(n) => fill_in(b" total *0", n),
         Added::Refused(r) => fill_in(b" refused %0", answer::number(r)),
     }
 }

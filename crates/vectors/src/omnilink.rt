@@ -13,13 +13,13 @@ const EVENTS: u64 = 0x23;
 
 pub(crate) fn read_frame(bytes: &[u8]) {
     let r = host::omnilink::omnilink_frame_read(bytes);
-    show(b" type #1, [2no ]data$2", r, bytes);
+    show(b" type #1, {2no }data$2", r, bytes);
 }
 
 // The name of a message, by its type.
 fn name(r: u64, bytes: &[u8]) {
     show(
-        b"[1||||| acknowledge| negative acknowledge||||||| upload event log| log entry||| request system information|| request system status|| request zones ^3 ^4| zones|||||||||| login ^3 ^4 ^5 ^6| logout| request system events| events|| text messages]",
+        b"{1||||| acknowledge| negative acknowledge||||||| upload event log| log entry||| request system information|| request system status|| request zones '3 '4| zones|||||||||| login '3 '4 '5 '6| logout| request system events| events|| text messages}",
         r,
         bytes,
     );
@@ -56,7 +56,7 @@ fn item(kind: u64, bytes: &[u8], i: usize) {
         ZONES => zone(host::messages::omnilink_zone(bytes, i), bytes),
         EVENTS => show(b" #2#1", host::messages::omnilink_event(bytes, i), bytes),
         _ => show(
-            b" [1-|d][2-|n]",
+            b" {1-|d}{2-|n}",
             host::messages::omnilink_text_message(bytes, i),
             bytes,
         ),
@@ -65,7 +65,7 @@ fn item(kind: u64, bytes: &[u8], i: usize) {
 
 fn command(r: u64, bytes: &[u8]) {
     show(
-        b"[1 off unit| on unit| all off area| all on area|||||| lighting level unit| decrement counter| increment counter| set counter] &4[1|||||||||, %3 percent|||, %3 as value][2|, %3 seconds|, %3 minutes|, %3 hours]",
+        b"{1 off unit| on unit| all off area| all on area|||||| lighting level unit| decrement counter| increment counter| set counter} &4{1|||||||||, %3 percent|||, %3 as value}{2|, %3 seconds|, %3 minutes|, %3 hours}",
         r,
         bytes,
     );
@@ -73,7 +73,7 @@ fn command(r: u64, bytes: &[u8]) {
 
 fn zone(r: u64, bytes: &[u8]) {
     show(
-        b"; [1secure|not ready|trouble], [2secure|tripped|reset], [3disarmed|armed|bypassed by user|bypassed by system]{4, unacknowledged trouble], loop %5",
+        b"; {1secure|not ready|trouble}, {2secure|tripped|reset}, {3disarmed|armed|bypassed by user|bypassed by system}~4, unacknowledged trouble}, loop %5",
         r,
         bytes,
     );

@@ -3,7 +3,7 @@ use crate::output::show;
 
 pub(crate) fn at_thermostat(bytes: &[u8]) {
     show(
-        b"[1 poll registers from %3, count %4| set registers from %3, count %4, values$4| poll group 1| poll group 2| poll group 3], to #2",
+        b"{1 poll registers from %3, count %4| set registers from %3, count %4, values$4| poll group 1| poll group 2| poll group 3}, to #2",
         host::omnistat2::omnistat_read_at_thermostat(bytes),
         bytes,
     );
@@ -11,7 +11,7 @@ pub(crate) fn at_thermostat(bytes: &[u8]) {
 
 pub(crate) fn at_host(bytes: &[u8]) {
     show(
-        b"[1 acknowledge| negative| data registers from %3, count %4, values$4| group 1, values!4| group 2, values!4| group 3, values!4], from %2",
+        b"{1 acknowledge| negative| data registers from %3, count %4, values$4| group 1, values!4| group 2, values!4| group 3, values!4}, from %2",
         host::omnistat2::omnistat_read_at_host(bytes),
         bytes,
     );

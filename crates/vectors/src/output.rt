@@ -63,25 +63,23 @@ fn values(bytes: &[u8], at: usize, count: u64) {
     list(part(bytes, at, count as usize));
 }
 
-// A character of a form that stands behind no mark: itself, but for the marks.
-fn plain(c: u8, answer: u64, bytes: &[u8]) {
+// A character of a form that stands behind no mark: itself, unless it is one.
+fn plain(c: u8) {
     match c {
-        b'%' | b'#' | b'&' | b'^' | b'$' | b'!' | b'[' | b'{' | b'|' | b']' => {}
-        b'*' => number(answer / 256),
-        b'@' => letter(10 + field(answer, 2) % 16),
-        b'>' => values(bytes, 0, answer / 256),
+        b'!'..=b'+' | b'@' | b'{'..=b'~' => {}
         _ => character(c),
     }
 }
 
-// A character of a form, behind the one before it, if that is a mark of bytes.
+// A character of a form, behind the one before it, if that is no mark of the answer.
 fn listed(before: u8, c: u8, answer: u64, bytes: &[u8]) {
     match before {
-        b'^' => number(wide(byte(bytes, (c % 8) as usize))),
+        b'\'' => number(wide(byte(bytes, (c % 8) as usize))),
         b'$' => values(bytes, 3, field(answer, c)),
         b'!' => values(bytes, 2, field(answer, c)),
-        b'[' | b'{' => {}
-        _ => plain(c, answer, bytes),
+        b'+' => values(bytes, 0, from(answer, c)),
+        b'{' | b'~' => {}
+        _ => plain(c),
     }
 }
 
@@ -91,6 +89,8 @@ fn filled(before: u8, c: u8, answer: u64, bytes: &[u8]) {
         b'%' => number(field(answer, c)),
         b'#' => hex(field(answer, c)),
         b'&' => number(from(answer, c) % 65536),
+        b'*' => number(from(answer, c)),
+        b'@' => letter(10 + field(answer, c) % 16),
         _ => listed(before, c, answer, bytes),
     }
 }
@@ -98,8 +98,8 @@ fn filled(before: u8, c: u8, answer: u64, bytes: &[u8]) {
 // How many choices of a form are left to pass before it prints again.
 fn opened(left: u64, before: u8, n: u64) -> u64 {
     match before {
-        b'[' => n,
-        b'{' => {
+        b'{' => n,
+        b'~' => {
             if n == 0 {
                 return 1;
             }
@@ -118,15 +118,15 @@ fn passed(left: u64, before: u8, c: u8, answer: u64) -> u64 {
             }
             left - 1
         }
-        b']' => 0,
+        b'}' => 0,
         _ => opened(left, before, field(answer, c)),
     }
 }
 
-// Prints a form of an answer to bytes.
-//   %N byte N of the answer in decimal, #N in hex, &N the 16 bits from there on; * all above the answer number; @ byte 2, the letter of a house
-//   ^N byte N of the bytes; $N and !N as many of them as byte N of the answer says, from 3 and from 2 on; > as many as are written
-//   [N..|..] the choice that byte N of the answer numbers, from 0 on; {N..] what is printed unless that is 0
+// Prints a form of an answer to bytes. N is a digit.
+//   %N byte N of the answer in decimal, #N in hex, @N as the letter of a house; &N the 16 bits from there on, *N all of it from there on
+//   'N byte N of the bytes; $N and !N so many of them as byte N of the answer says, from 3 and from 2 on; +N as *N says, from 0 on
+//   {N..|..} the choice that byte N of the answer numbers, from 0 on; ~N..} what is printed unless that is 0
 fn fill(form: &[u8], answer: u64, bytes: &[u8]) {
     let mut before = b' ';
     let mut left = 0;

@@ -13,25 +13,18 @@ const ROOM: usize = 62;
 // The kind of a pattern with a function.
 const FUNCTION: u64 = 1;
 
-// The function with a code, D8 D4 D2 D1.
-fn function(r: u64) {
-    if field(r, 1) == FUNCTION {
-        show(
-            b"[3 all units off| all lights on| on| off| dim| bright| all lights off|| hail request| hail acknowledge|||| status on| status off| status request]",
-            r,
-            b"",
-        );
-    }
-}
-
+// A function is numbered by its code, D8 D4 D2 D1.
 pub(crate) fn read(places: &[u8]) {
     let r = host::patterns::x10_read(places);
-    show(
-        b" house @[1 unit %3|| unit %3 data #4 command #5]",
-        r,
-        places,
-    );
-    function(r);
+    if field(r, 1) == FUNCTION {
+        show(
+            b" house @2{3 all units off| all lights on| on| off| dim| bright| all lights off|| hail request| hail acknowledge|||| status on| status off| status request}",
+            r,
+            places,
+        );
+    } else {
+        show(b" house @2 unit %3{1|| data #4 command #5}", r, places);
+    }
 }
 
 // A place, with a blank where a part of the pattern ends before it: start, house, key, unit, data.
@@ -51,15 +44,6 @@ fn list(places: &[u8]) {
     }
 }
 
-// Places, and what is read from them.
-fn reads(places: &[u8]) {
-    if places.len() > 0 {
-        list(places);
-        text(b" reads");
-        read(places);
-    }
-}
-
 // House, then unit, function code, or unit, data and command, by the call.
 fn write_to(call: u64, house: u8, key: u8, data: u8, command: u8, out: &mut [u8]) -> u64 {
     match call {
@@ -69,10 +53,15 @@ fn write_to(call: u64, house: u8, key: u8, data: u8, command: u8, out: &mut [u8]
     }
 }
 
-// What a writer answered and wrote.
+// What a writer answered and wrote, and what is read from that.
 fn written(r: u64, out: &[u8]) {
     show(b" ", r, out);
-    reads(part(out, 0, (r / 256) as usize));
+    let places = part(out, 0, (r / 256) as usize);
+    if places.len() > 0 {
+        list(places);
+        text(b" reads");
+        read(places);
+    }
 }
 
 pub(crate) fn write(call: u64, b: &[u8]) {

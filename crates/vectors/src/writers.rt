@@ -26,5 +26,5 @@ pub(crate) fn write(call: u64, b: &[u8]) {
         rest(b, 2),
         &mut out,
     );
-    show(b">", r, &out);
+    show(b"+1", r, &out);
 }
