@@ -1,5 +1,5 @@
 // The capture listing.
-use crate::input::part;
+use crate::input::first;
 use crate::output::show;
 use crate::output::text;
 
@@ -8,7 +8,7 @@ const ROOM: usize = 4096;
 
 fn listed(r: u64, out: &[u8]) {
     show(b"\n", r, out);
-    text(part(out, 0, (r / 256) as usize));
+    text(first(out, (r / 256) as usize));
 }
 
 pub(crate) fn list(bytes: &[u8]) {

@@ -86,19 +86,16 @@ pub(crate) fn byte(bytes: &[u8], i: usize) -> u8 {
     0
 }
 
-// So many bytes from a place on; none where there are not so many.
-pub(crate) fn part(bytes: &[u8], from: usize, count: usize) -> &[u8] {
+// So many bytes from the first on; none where there are not so many.
+pub(crate) fn first(bytes: &[u8], count: usize) -> &[u8] {
     if bytes.len() < count {
         return &bytes[..0];
     }
-    if bytes.len() - count < from {
-        return &bytes[..0];
-    }
-    let end = from + count;
-    &bytes[from..end]
+    let start = 0;
+    &bytes[start..count]
 }
 
-// The bytes from a place on.
+// The bytes from a place on; none past the last.
 pub(crate) fn rest(bytes: &[u8], from: usize) -> &[u8] {
     if bytes.len() < from {
         return &bytes[..0];

@@ -1,10 +1,10 @@
 // Runs the vectors on standard input, a line for each: the name of a call, then what it is given, in hex. Prints each line with the
 // call's answer behind it. A line that starts with no such name, as a comment, is printed as it is. The calls are those of the C interface,
-// so an answer is a packed number.
+// whose answers are packed numbers, but for the tally, which is called in its crate.
 mod captures; // the listing
 mod input; // lines, names and digits
 mod model; // the model thermostat, temperatures, cost words and the tally
-mod omnilink; // Omni-Link frames and messages
+mod omnilink; // Omni-Link frames and messages, read
 mod omnistat2; // Omnistat2 messages, read
 mod output; // texts, numbers, bytes and answers
 mod patterns; // X-10 patterns

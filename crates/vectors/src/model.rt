@@ -1,7 +1,7 @@
 // The model thermostat, temperatures, cost words and the tally.
 use crate::input::byte;
+use crate::input::first;
 use crate::input::long;
-use crate::input::part;
 use crate::input::rest;
 use crate::input::wide;
 use crate::output::fill_in;
@@ -47,17 +47,12 @@ fn changes(map: &[u8]) {
     }
 }
 
-// A step over a map, and what it answered and sent.
-fn step_on(map: &mut [u8], bytes: &[u8]) {
-    let mut out = [0u8; ROOM];
-    let r = host::model::thermostat_step(byte(bytes, 0), map, rest(bytes, 1), &mut out);
-    show(b"{1 silence}~1 reply+1}", r, &out);
-}
-
 // Own address, then the message. The map starts with each register holding its number.
 pub(crate) fn step(bytes: &[u8]) {
     let mut map = numbered();
-    step_on(&mut map, bytes);
+    let mut out = [0u8; ROOM];
+    let r = host::model::thermostat_step(byte(bytes, 0), &mut map, rest(bytes, 1), &mut out);
+    show(b"{1 silence}~1 reply+1}", r, &out);
     changes(&map);
 }
 
@@ -133,5 +128,5 @@ fn added(a: Added) {
 // A total of eight bytes, then a cost word.
 pub(crate) fn tally(bytes: &[u8]) {
     let word = cost_word(rest(bytes, 8));
-    added(tallied(long(part(bytes, 0, 8)), word));
+    added(tallied(long(first(bytes, 8)), word));
 }

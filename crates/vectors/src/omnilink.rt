@@ -1,4 +1,4 @@
-// Omni-Link frames and messages.
+// Omni-Link frames and messages, read.
 use crate::output::field;
 use crate::output::show;
 

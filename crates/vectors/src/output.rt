@@ -1,6 +1,7 @@
 // Printing texts, numbers, bytes and answers.
 use crate::input::byte;
-use crate::input::part;
+use crate::input::first;
+use crate::input::rest;
 use crate::input::wide;
 
 const STDOUT: i32 = 1;
@@ -59,8 +60,9 @@ pub(crate) fn field(answer: u64, i: u8) -> u64 {
     from(answer, i) % 256
 }
 
+// So many bytes from a place on.
 fn values(bytes: &[u8], at: usize, count: u64) {
-    list(part(bytes, at, count as usize));
+    list(first(rest(bytes, at), count as usize));
 }
 
 // A character of a form that stands behind no mark: itself, unless it is one.
@@ -95,7 +97,7 @@ fn filled(before: u8, c: u8, answer: u64, bytes: &[u8]) {
     }
 }
 
-// How many choices of a form are left to pass before it prints again.
+// How many choices of a form are left to pass before it prints again, behind the character before; n is the byte that a choice names.
 fn opened(left: u64, before: u8, n: u64) -> u64 {
     match before {
         b'{' => n,
@@ -109,7 +111,7 @@ fn opened(left: u64, before: u8, n: u64) -> u64 {
     }
 }
 
-// The same, at a character.
+// The same, at any character.
 fn passed(left: u64, before: u8, c: u8, answer: u64) -> u64 {
     match c {
         b'|' => {

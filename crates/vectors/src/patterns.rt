@@ -1,6 +1,6 @@
 // X-10 patterns.
 use crate::input::byte;
-use crate::input::part;
+use crate::input::first;
 use crate::input::wide;
 use crate::output::field;
 use crate::output::number;
@@ -9,6 +9,11 @@ use crate::output::text;
 
 // The places of an Extended 1.
 const ROOM: usize = 62;
+
+// The calls that write patterns, but for the last, as main.rt numbers them.
+const WRITE_UNIT: u64 = 10;
+
+const WRITE_FUNCTION: u64 = 11;
 
 // The kind of a pattern with a function.
 const FUNCTION: u64 = 1;
@@ -44,11 +49,11 @@ fn list(places: &[u8]) {
     }
 }
 
-// House, then unit, function code, or unit, data and command, by the call.
+// By the call: house and unit, house and function code, or house, unit, data and command.
 fn write_to(call: u64, house: u8, key: u8, data: u8, command: u8, out: &mut [u8]) -> u64 {
     match call {
-        10 => host::patterns::x10_write_unit(house, key, out),
-        11 => host::patterns::x10_write_function(house, key, out),
+        WRITE_UNIT => host::patterns::x10_write_unit(house, key, out),
+        WRITE_FUNCTION => host::patterns::x10_write_function(house, key, out),
         _ => host::patterns::x10_write_extended(house, key, data, command, out),
     }
 }
@@ -56,7 +61,7 @@ fn write_to(call: u64, house: u8, key: u8, data: u8, command: u8, out: &mut [u8]
 // What a writer answered and wrote, and what is read from that.
 fn written(r: u64, out: &[u8]) {
     show(b" ", r, out);
-    let places = part(out, 0, (r / 256) as usize);
+    let places = first(out, (r / 256) as usize);
     if places.len() > 0 {
         list(places);
         text(b" reads");

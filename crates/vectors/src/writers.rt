@@ -6,12 +6,19 @@ use crate::output::show;
 // More than a frame or a message has.
 const ROOM: usize = 80;
 
+// The calls, but for the last, as main.rt numbers them.
+const WRITE_FRAME: u64 = 13;
+
+const WRITE_MESSAGE: u64 = 14;
+
+const TO_THERMOSTAT: u64 = 15;
+
 // By the call: a type and data bytes, or an address or a number, a type and data bytes. The data bytes are behind one byte, or behind two.
 fn write_to(call: u64, first: u8, second: u8, one: &[u8], two: &[u8], out: &mut [u8]) -> u64 {
     match call {
-        13 => host::omnilink::omnilink_frame_write(first, one, out),
-        14 => host::messages::omnilink_message_write(first, one, out),
-        15 => host::omnistat2::omnistat_write_to_thermostat(first, second, two, out),
+        WRITE_FRAME => host::omnilink::omnilink_frame_write(first, one, out),
+        WRITE_MESSAGE => host::messages::omnilink_message_write(first, one, out),
+        TO_THERMOSTAT => host::omnistat2::omnistat_write_to_thermostat(first, second, two, out),
         _ => host::omnistat2::omnistat_write_to_host(first, second, two, out),
     }
 }
