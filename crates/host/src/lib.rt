@@ -1,8 +1,8 @@
 // The C interface: a thin call over each public operation. include/gateway.h declares every function here.
-mod captures;
-mod cost;
-mod messages;
-mod model;
-mod omnilink;
-mod omnistat2;
-mod patterns;
+pub mod captures;
+pub mod cost;
+pub mod messages;
+pub mod model;
+pub mod omnilink;
+pub mod omnistat2;
+pub mod patterns;

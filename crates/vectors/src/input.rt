@@ -1,4 +1,4 @@
-// Reading the vectors: lines, the names that they start with, and their digits.
+// Reading the vectors: lines, the names that they start with, their digits, and the numbers and parts of what they give.
 ghost use Prim.Native.Nat.{_≤_};
 ghost use lib.ListN.{length};
 ghost use Rattle.io.specs.Counts.{Counts};
@@ -28,10 +28,7 @@ pub(crate) fn line_end(text: &[u8], at: usize) -> usize
 pub(crate) fn starts(line: &[u8], name: &[u8]) -> bool {
     let mut i = 0;
     while i < name.len() {
-        if line.len() <= i {
-            return false;
-        }
-        if line[i] != name[i] {
+        if byte(line, i) != name[i] {
             return false;
         }
         i += 1;
@@ -41,19 +38,11 @@ pub(crate) fn starts(line: &[u8], name: &[u8]) -> bool {
 
 // The value of a hex digit. Letters are capitals, so that a call's name has no digits.
 fn digit(c: u8) -> u8 {
-    if c < b'0' {
-        return NO_DIGIT;
+    match c {
+        b'0'..=b'9' => c - b'0',
+        b'A'..=b'F' => c - b'A' + 10,
+        _ => NO_DIGIT,
     }
-    if c <= b'9' {
-        return c - b'0';
-    }
-    if c < b'A' {
-        return NO_DIGIT;
-    }
-    if c <= b'F' {
-        return c - b'A' + 10;
-    }
-    NO_DIGIT
 }
 
 // Adds a digit to the numbers in the output, of which so many halves are filled, and answers how many are then.
@@ -87,4 +76,44 @@ pub(crate) fn digits(line: &[u8], halves: usize, out: &mut [u8]) -> usize
         i += 1;
     }
     filled / 2
+}
+
+// Byte i, and 0 past the last.
+pub(crate) fn byte(bytes: &[u8], i: usize) -> u8 {
+    if i < bytes.len() {
+        return bytes[i];
+    }
+    0
+}
+
+// So many bytes from the first on; none where there are not so many.
+pub(crate) fn first(bytes: &[u8], count: usize) -> &[u8] {
+    if bytes.len() < count {
+        return &bytes[..0];
+    }
+    let start = 0;
+    &bytes[start..count]
+}
+
+// The bytes from a place on; none past the last.
+pub(crate) fn rest(bytes: &[u8], from: usize) -> &[u8] {
+    if bytes.len() < from {
+        return &bytes[..0];
+    }
+    &bytes[from..]
+}
+
+pub(crate) fn wide(b: u8) -> u64 {
+    b as u64
+}
+
+// The number of bytes, high byte first: of the last eight.
+pub(crate) fn long(bytes: &[u8]) -> u64 {
+    let mut n = 0;
+    let mut i = 0;
+    while i < bytes.len() {
+        n = n << 8 | wide(bytes[i]);
+        i += 1;
+    }
+    n
 }

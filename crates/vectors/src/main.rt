@@ -1,51 +1,52 @@
 // Runs the vectors on standard input, a line for each: the name of a call, then what it is given, in hex. Prints each line with the
-// call's answer behind it. A line that starts with no such name, as a comment, is printed as it is.
+// call's answer behind it. A line that starts with no such name, as a comment, is printed as it is. The calls are those of the C interface,
+// whose answers are packed numbers, but for the tally, which is called in its crate.
 mod captures; // the listing
 mod input; // lines, names and digits
-mod items; // the items of Omni-Link messages
 mod model; // the model thermostat, temperatures, cost words and the tally
-mod omnilink; // Omni-Link frames and messages
-mod omnistat2; // Omnistat2 messages
-mod output; // words, numbers and bytes
+mod omnilink; // Omni-Link frames and messages, read
+mod omnistat2; // Omnistat2 messages, read
+mod output; // texts, numbers, bytes and answers
 mod patterns; // X-10 patterns
+mod writers; // the calls that write frames and messages
 
 ghost use Prim.Native.Nat.{_≤_};
 use input::MOST;
+use input::line_end;
 use input::starts;
-use output::line_of;
 use output::text;
 
 const STDIN: i32 = 0;
 
-// How many calls have a name.
-const CALLS: u8 = 17;
-
 // The call whose digits are places.
-const READ_PLACES: u8 = 0;
+const READ_PLACES: u64 = 0;
 
 // The call that a line names, of names with a line for each, by its place there. Its answer follows on the line.
-fn named(line: &[u8], names: &[u8]) -> u8 {
-    let mut call: u8 = 0;
-    while call < CALLS {
-        if starts(line, line_of(names, call)) {
+fn named(line: &[u8], names: &[u8]) -> u64 {
+    let mut at = 0;
+    let mut call = 0;
+    while at < names.len() {
+        let end = line_end(names, at);
+        if starts(line, &names[at..end]) {
             text(b" =");
             return call;
         }
+        at = end + 1;
         call += 1;
     }
     call
 }
 
 // The call that a line names, by its place among the answers below.
-fn call_of(line: &[u8]) -> u8 {
+fn call_of(line: &[u8]) -> u64 {
     named(
         line,
-        b"read places\nread frame\nwrite frame\nread message\nwrite message\nlisting\nat thermostat\nat host\nto thermostat\nto host\nstep\ntemperatures\ncost\ntally\nwrite unit\nwrite function\nwrite extended\n",
+        b"read places\nread frame\nread message\nat thermostat\nat host\nstep\ntemperatures\ncost\ntally\nlisting\nwrite unit\nwrite function\nwrite extended\nwrite frame\nwrite message\nto thermostat\nto host\n",
     )
 }
 
 // How many halves of a number a digit fills.
-fn halves(call: u8) -> usize
+fn halves(call: u64) -> usize
     ensures { λ r. ⌜ r ≤ 2 ⌝ }
 {
     if call == READ_PLACES {
@@ -55,36 +56,35 @@ fn halves(call: u8) -> usize
 }
 
 // The answer of a call to bytes, or to places.
-fn answer_call(call: u8, bytes: &[u8]) {
+fn answer_call(call: u64, bytes: &[u8]) {
     match call {
         READ_PLACES => patterns::read(bytes),
         1 => omnilink::read_frame(bytes),
-        2 => omnilink::write_frame(bytes),
-        3 => omnilink::read_message(bytes),
-        4 => omnilink::write_message(bytes),
-        5 => captures::list(bytes),
-        6 => omnistat2::at_thermostat(bytes),
-        7 => omnistat2::at_host(bytes),
-        8 => omnistat2::to_thermostat(bytes),
-        9 => omnistat2::to_host(bytes),
-        10 => model::step(bytes),
-        11 => model::temperatures(),
-        12 => model::cost(bytes),
-        13 => model::tally(bytes),
-        14 => patterns::write_unit(bytes),
-        15 => patterns::write_function(bytes),
-        16 => patterns::write_extended(bytes),
+        2 => omnilink::read_message(bytes),
+        3 => omnistat2::at_thermostat(bytes),
+        4 => omnistat2::at_host(bytes),
+        5 => model::step(bytes),
+        6 => model::temperatures(),
+        7 => model::cost(bytes),
+        8 => model::tally(bytes),
+        9 => captures::list(bytes),
+        10..=12 => patterns::write(call, bytes),
+        13..=16 => writers::write(call, bytes),
         _ => {}
     }
+}
+
+// The answer of a call to what a line gives.
+fn answer_given(call: u64, line: &[u8]) {
+    let mut bytes = [0u8; MOST];
+    let n = input::digits(line, halves(call), &mut bytes);
+    answer_call(call, &bytes[..n]);
 }
 
 // Prints a line and the answer of the call that it names.
 fn answer(line: &[u8]) {
     text(line);
-    let call = call_of(line);
-    let mut bytes = [0u8; MOST];
-    let n = input::digits(line, halves(call), &mut bytes);
-    answer_call(call, &bytes[..n]);
+    answer_given(call_of(line), line);
     text(b"\n");
 }
 
@@ -92,7 +92,7 @@ fn answer(line: &[u8]) {
 fn run(lines: &[u8]) {
     let mut at = 0;
     while at < lines.len() {
-        let end = input::line_end(lines, at);
+        let end = line_end(lines, at);
         answer(&lines[at..end]);
         at = end + 1;
     }

@@ -1,13 +1,13 @@
 // The model thermostat, temperatures, cost words and the tally.
-use crate::output;
-use crate::output::small;
-use crate::output::text;
-use answer::Written;
+use crate::input::byte;
+use crate::input::first;
+use crate::input::long;
+use crate::input::rest;
+use crate::input::wide;
+use crate::output::fill_in;
+use crate::output::show;
 use tally::Added;
-use tally::Cost;
 use tally::Tally;
-ghost use Prim.Native.Nat.{_≤_};
-ghost use lib.ListN.{length};
 ghost use mathlib.Core.Path.{_≡_};
 ghost use Rattle.tally.specs.Total.{nextTotal, addedOf};
 
@@ -32,10 +32,10 @@ fn numbered() -> [u8; REGISTERS] {
 // A register of such a map, where it no longer holds its number.
 fn changed(register: usize, byte: u8) {
     if byte as usize != register {
-        text(b", register ");
-        output::number(register as u64);
-        text(b" is ");
-        small(byte);
+        fill_in(
+            b", register %0 is %1",
+            register as u64 % 256 + byte as u64 * 256,
+        );
     }
 }
 
@@ -47,45 +47,17 @@ fn changes(map: &[u8]) {
     }
 }
 
-// What a step answered and sent.
-fn sent(w: Written, out: &[u8]) {
-    match w {
-        Written::Count(n) => {
-            if n == 0 {
-                text(b" silence");
-            } else {
-                text(b" reply");
-                output::list(output::Form::Hex, out, n as usize);
-            }
-        }
-        Written::Refused(r) => output::refused(r),
-    }
-}
-
 // Own address, then the message. The map starts with each register holding its number.
 pub(crate) fn step(bytes: &[u8]) {
-    if bytes.len() == 0 {
-        return;
-    }
     let mut map = numbered();
     let mut out = [0u8; ROOM];
-    let w = thermostat::step::step(bytes[0], &mut map, &bytes[1..], &mut out);
-    sent(w, &out);
+    let r = host::model::thermostat_step(byte(bytes, 0), &mut map, rest(bytes, 1), &mut out);
+    show(b"{1 silence}~1 reply+1}", r, &out);
     changes(&map);
 }
 
 // The whole part of a number from 0 to below 2^64.
-fn whole_f32(x: f32) -> u64 {
-    if x > -1.0 {
-        if x < 18446744073709551616.0 {
-            return std::num::truncating_f32_to_u64(x);
-        }
-    }
-    0
-}
-
-// The same of the wider format, which holds every i32.
-fn whole_f64(x: f64) -> u64 {
+fn whole(x: f64) -> u64 {
     if x > -1.0 {
         if x < 18446744073709551616.0 {
             return std::num::truncating_f64_to_u64(x);
@@ -94,34 +66,26 @@ fn whole_f64(x: f64) -> u64 {
     0
 }
 
-// Degrees Celsius, with one decimal.
-fn celsius(degrees: f32) {
-    if degrees < 0.0 {
-        text(b" -");
-        output::tenths(whole_f32(degrees * -10.0));
-    } else {
-        text(b" ");
-        output::tenths(whole_f32(degrees * 10.0));
-    }
+// A number of tenths in a form of its whole part and of its decimal.
+fn tenths(form: &[u8], x: f64) {
+    let n = whole(x);
+    fill_in(form, n / 10 + n % 10 * 65536);
 }
 
-// Degrees Fahrenheit, given in tenths, with one decimal.
-fn fahrenheit(tenths: f64) {
-    if tenths < 0.0 {
-        text(b" -");
-        output::tenths(whole_f64(0.0 - tenths));
+fn signed_tenths(x: f64) {
+    if x < 0.0 {
+        tenths(b" -&0.%2", 0.0 - x);
     } else {
-        text(b" ");
-        output::tenths(whole_f64(tenths));
+        tenths(b" &0.%2", x);
     }
 }
 
 // A line of the temperature table: byte, degrees Celsius, degrees Fahrenheit.
 fn temperature(byte: u8) {
-    text(b"\n");
-    small(byte);
-    celsius(thermostat::temperature::celsius(byte));
-    fahrenheit(thermostat::temperature::fahrenheit_tenths(byte) as f64);
+    fill_in(b"\n%0", wide(byte));
+    let degrees = std::num::f32_to_f64_with_nan(host::model::temperature_celsius(byte));
+    signed_tenths(degrees * 10.0);
+    signed_tenths(host::model::temperature_fahrenheit_tenths(byte) as f64);
 }
 
 // The temperature of each byte.
@@ -134,30 +98,16 @@ pub(crate) fn temperatures() {
     temperature(LAST_BYTE);
 }
 
-fn show_word(w: u16) {
-    text(b" word ");
-    output::number(w as u64);
-    text(b",");
+// A cost word, high byte first.
+fn cost_word(bytes: &[u8]) -> u16 {
+    let word = long(bytes) % 65536;
+    fill_in(b" word &0,", word);
+    word as u16
 }
 
-fn word(hi: u8, lo: u8) -> u16 {
-    hi as u16 * 256 + lo as u16
-}
-
-// High byte and low byte of a cost word.
 pub(crate) fn cost(bytes: &[u8]) {
-    if bytes.len() < 2 {
-        return;
-    }
-    let w = word(bytes[0], bytes[1]);
-    show_word(w);
-    match tally::convert(w) {
-        Cost::Millionths(v) => {
-            text(b" millionths ");
-            output::number(v);
-        }
-        Cost::Refused(r) => output::refused(r),
-    }
+    let r = host::cost::cost_millionths(cost_word(bytes));
+    show(b" millionths *1", r, bytes);
 }
 
 // The answer of a tally with this total to a word.
@@ -168,31 +118,15 @@ fn tallied(total: u64, word: u16) -> Added
     tally::add(&mut t, word)
 }
 
-// A number of eight bytes, high byte first.
-fn long(bytes: &[u8]) -> u64
-    requires { ⌜ 8 ≤ length (now bytes) ⌝ }
-{
-    let hi = word(bytes[0], bytes[1]) as u64 * 65536 + word(bytes[2], bytes[3]) as u64;
-    let lo = word(bytes[4], bytes[5]) as u64 * 65536 + word(bytes[6], bytes[7]) as u64;
-    hi * 0x1_0000_0000 + lo
-}
-
-fn show_added(a: Added) {
+fn added(a: Added) {
     match a {
-        Added::Total(n) => {
-            text(b" total ");
-            output::number(n);
-        }
-        Added::Refused(r) => output::refused(r),
+        Added::Total(n) => fill_in(b" total *0", n),
+        Added::Refused(r) => fill_in(b" refused %0", answer::number(r)),
     }
 }
 
 // A total of eight bytes, then a cost word.
 pub(crate) fn tally(bytes: &[u8]) {
-    if bytes.len() < 10 {
-        return;
-    }
-    let w = word(bytes[8], bytes[9]);
-    show_word(w);
-    show_added(tallied(long(bytes), w));
+    let word = cost_word(rest(bytes, 8));
+    added(tallied(long(first(bytes, 8)), word));
 }

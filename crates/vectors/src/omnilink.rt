@@ -1,124 +1,80 @@
-// Omni-Link frames and messages.
-use crate::items::COMMAND;
-use crate::items::EVENTS;
-use crate::items::LOG_ENTRY;
-use crate::items::TEXT_MESSAGES;
-use crate::items::ZONES;
-use crate::items::items;
-use crate::output;
-use crate::output::Form;
-use crate::output::refused;
-use crate::output::small;
-use crate::output::text;
-use crate::output::word;
-use link::frame::FrameRead;
-use message::message::Fixed;
-use message::message::Message;
-use message::message::MessageRead;
+// Omni-Link frames and messages, read.
+use crate::output::field;
+use crate::output::show;
 
-// More than a frame has.
-const ROOM: usize = 80;
+// The types of messages that have items.
+const LOG_ENTRY: u64 = 0x0E;
 
-fn data(bytes: &[u8]) {
-    if bytes.len() == 0 {
-        text(b", no data");
-    } else {
-        text(b", data");
-        output::bytes(bytes);
-    }
-}
+const COMMAND: u64 = 0x0F;
+
+const ZONES: u64 = 0x16;
+
+const EVENTS: u64 = 0x23;
 
 pub(crate) fn read_frame(bytes: &[u8]) {
-    match link::frame::read(bytes) {
-        FrameRead::Accepted { kind, count } => {
-            text(b" type ");
-            output::hex(kind);
-            data(link::frame::data(bytes, count));
-        }
-        FrameRead::Refused(r) => refused(r),
-    }
+    let r = host::omnilink::omnilink_frame_read(bytes);
+    show(b" type #1, {2no }data$2", r, bytes);
 }
 
-// Type and data bytes.
-pub(crate) fn write_frame(bytes: &[u8]) {
-    if bytes.len() == 0 {
-        return;
-    }
-    let mut out = [0u8; ROOM];
-    let w = link::frame::write(bytes[0], &bytes[1..], &mut out);
-    output::written(w, Form::Hex, &out);
-}
-
-// Type and data bytes.
-pub(crate) fn write_message(bytes: &[u8]) {
-    if bytes.len() == 0 {
-        return;
-    }
-    let mut out = [0u8; ROOM];
-    let w = message::message::write(bytes[0], &bytes[1..], &mut out);
-    output::written(w, Form::Hex, &out);
-}
-
-// A message of this name, and its items.
-fn named(name: u8, bytes: &[u8], count: u8) {
-    word(
-        b" acknowledge\n negative acknowledge\n upload event log\n request system information\n request system status\n logout\n request system events\n\n\n log entry\n\n zones\n events\n text messages\n",
-        name,
+// The name of a message, by its type.
+fn name(r: u64, bytes: &[u8]) {
+    show(
+        b"{1||||| acknowledge| negative acknowledge||||||| upload event log| log entry||| request system information|| request system status|| request zones '3 '4| zones|||||||||| login '3 '4 '5 '6| logout| request system events| events|| text messages}",
+        r,
+        bytes,
     );
-    items(name, bytes, count as usize);
 }
 
-fn two(first: u8, second: u8) {
-    text(b" ");
-    small(first);
-    text(b" ");
-    small(second);
-}
-
-fn login(first: u8, second: u8, third: u8, fourth: u8) {
-    text(b" login");
-    two(first, second);
-    two(third, fourth);
-}
-
-fn zone_request(first: u8, last: u8) {
-    text(b" request zones");
-    two(first, last);
-}
-
-fn fixed(f: Fixed, bytes: &[u8]) {
-    match f {
-        Fixed::Acknowledge => named(0, bytes, 0),
-        Fixed::NegativeAcknowledge => named(1, bytes, 0),
-        Fixed::UploadEventLog => named(2, bytes, 0),
-        Fixed::RequestSystemInformation => named(3, bytes, 0),
-        Fixed::RequestSystemStatus => named(4, bytes, 0),
-        Fixed::Logout => named(5, bytes, 0),
-        Fixed::RequestSystemEvents => named(6, bytes, 0),
-        Fixed::Login {
-            first,
-            second,
-            third,
-            fourth,
-        } => login(first, second, third, fourth),
-        Fixed::ZoneRequest { first, last } => zone_request(first, last),
-        Fixed::LogEntry(_) => named(LOG_ENTRY, bytes, 9),
-        Fixed::Command(_) => named(COMMAND, bytes, 1),
-    }
-}
-
-fn show(m: Message, bytes: &[u8]) {
-    match m {
-        Message::Fixed(f) => fixed(f, bytes),
-        Message::ZoneStatus { count } => named(ZONES, bytes, count),
-        Message::Events { count } => named(EVENTS, bytes, count),
-        Message::MessageStatus { count } => named(TEXT_MESSAGES, bytes, count),
+// How many items a message has: the fields of a log entry, the one command, or so many as it was answered.
+fn items_of(kind: u64, count: u64) -> usize {
+    match kind {
+        LOG_ENTRY => 9,
+        COMMAND => 1,
+        _ => count as usize,
     }
 }
 
 pub(crate) fn read_message(bytes: &[u8]) {
-    match message::message::read(bytes) {
-        MessageRead::Accepted(m) => show(m, bytes),
-        MessageRead::Refused(r) => refused(r),
+    let r = host::messages::omnilink_message_read(bytes);
+    name(r, bytes);
+    let kind = field(r, 1);
+    items(kind, bytes, items_of(kind, field(r, 2)));
+}
+
+fn items(kind: u64, bytes: &[u8], count: usize) {
+    let mut i = 0;
+    while i < count {
+        item(kind, bytes, i);
+        i += 1;
     }
+}
+
+fn item(kind: u64, bytes: &[u8], i: usize) {
+    match kind {
+        LOG_ENTRY => show(b" &1", host::messages::omnilink_log_entry(bytes, i), bytes),
+        COMMAND => command(host::messages::omnilink_command(bytes), bytes),
+        ZONES => zone(host::messages::omnilink_zone(bytes, i), bytes),
+        EVENTS => show(b" #2#1", host::messages::omnilink_event(bytes, i), bytes),
+        _ => show(
+            b" {1-|d}{2-|n}",
+            host::messages::omnilink_text_message(bytes, i),
+            bytes,
+        ),
+    }
+}
+
+fn command(r: u64, bytes: &[u8]) {
+    show(
+        b"{1 off unit| on unit| all off area| all on area|||||| lighting level unit| decrement counter| increment counter| set counter} &4{1|||||||||, %3 percent|||, %3 as value}{2|, %3 seconds|, %3 minutes|, %3 hours}",
+        r,
+        bytes,
+    );
+}
+
+fn zone(r: u64, bytes: &[u8]) {
+    show(
+        b"; {1secure|not ready|trouble}, {2secure|tripped|reset}, {3disarmed|armed|bypassed by user|bypassed by system}~4, unacknowledged trouble}, loop %5",
+        r,
+        bytes,
+    );
 }

@@ -1,21 +1,13 @@
-// Printing answers: words, numbers, bytes and places.
-use crate::input::line_end;
-use answer::Refusal;
-use answer::Written;
-ghost use Prim.Native.Nat.{_<_, _≤_};
-ghost use lib.ListN.{length};
+// Printing texts, numbers, bytes and answers.
+use crate::input::byte;
+use crate::input::first;
+use crate::input::rest;
+use crate::input::wide;
 
 const STDOUT: i32 = 1;
 
-// How each byte of a list is printed.
-pub enum Form {
-    // A blank and two hex digits.
-    Hex,
-    // 0 or 1, with a blank between the parts of a pattern.
-    Place,
-    // The character.
-    Text,
-}
+// More than the choices that a form has.
+const PASSED: u64 = 1000;
 
 pub(crate) fn text(words: &[u8]) {
     io::write_all(STDOUT, words);
@@ -30,126 +22,138 @@ pub(crate) fn number(n: u64) {
     io::print_decimal(STDOUT, n);
 }
 
-pub(crate) fn small(n: u8) {
-    number(n as u64);
-}
-
-fn hex_digit(d: u8) -> u8
-    requires { ⌜ d < 16 ⌝ }
-{
-    if d < 10 {
-        return b'0' + d;
-    }
-    b'A' - 10 + d
-}
-
-pub(crate) fn hex(b: u8) {
-    character(hex_digit(b / 16));
-    character(hex_digit(b % 16));
-}
-
-pub(crate) fn letter(house: u8) {
-    character(b'A' + house % 16);
-}
-
-// A number of tenths, with one decimal.
-pub(crate) fn tenths(n: u64) {
-    number(n / 10);
-    text(b".");
-    number(n % 10);
-}
-
-// Whether a part of a pattern ends before this place: start, house, key, unit, data.
-fn parts_at(i: usize) -> bool {
-    match i {
-        4 | 12 | 22 | 30 | 46 => true,
-        _ => false,
+// A hex digit, and on past F.
+fn letter(n: u64) {
+    if n < 10 {
+        number(n);
+    } else {
+        character(b'A' + ((n - 10) % 26) as u8);
     }
 }
 
-fn place(b: u8, i: usize) {
-    if parts_at(i) {
-        text(b" ");
-    }
-    small(b);
+fn hex(b: u64) {
+    letter(b / 16);
+    letter(b % 16);
 }
 
-fn item(form: Form, b: u8, i: usize) {
-    match form {
-        Form::Hex => {
-            text(b" ");
-            hex(b);
-        }
-        Form::Place => {
-            place(b, i);
-        }
-        Form::Text => {
-            character(b);
-        }
-    }
+fn item(b: u8) {
+    character(b' ');
+    hex(wide(b));
 }
 
-// Prints the first bytes of a slice.
-pub(crate) fn list(form: Form, bytes: &[u8], count: usize) {
+// Bytes in hex, each after a blank.
+fn list(bytes: &[u8]) {
     let mut i = 0;
     while i < bytes.len() {
-        if i < count {
-            item(form, bytes[i], i);
-        }
+        item(bytes[i]);
         i += 1;
     }
 }
 
-// Bytes in hex, each after a blank.
-pub(crate) fn bytes(from: &[u8]) {
-    list(Form::Hex, from, from.len());
+// An answer from its byte i on; i is a number or its digit.
+fn from(answer: u64, i: u8) -> u64 {
+    answer >> (i % 8 * 8)
 }
 
-pub(crate) fn refusal(n: u64) {
-    text(b" refused ");
-    number(n);
+// Byte i of an answer. Byte 0 is the answer number, and the fields are above it.
+pub(crate) fn field(answer: u64, i: u8) -> u64 {
+    from(answer, i) % 256
 }
 
-pub(crate) fn refused(r: Refusal) {
-    refusal(answer::number(r));
+// So many bytes from a place on.
+fn values(bytes: &[u8], at: usize, count: u64) {
+    list(first(rest(bytes, at), count as usize));
 }
 
-// Where word n starts, of words with a line for each; the end where there are not so many.
-fn word_at(words: &[u8], n: u8) -> usize
-    ensures { λ r. ⌜ r ≤ length (now (words .entry)) ⌝ }
-{
-    let mut at = 0;
-    let mut left = n;
-    while left > 0 {
-        let end = line_end(words, at);
-        if end == words.len() {
-            return end;
-        }
-        at = end + 1;
-        left -= 1;
+// A character of a form that stands behind no mark: itself, unless it is one.
+fn plain(c: u8) {
+    match c {
+        b'!'..=b'+' | b'@' | b'{'..=b'~' => {}
+        _ => character(c),
     }
-    at
 }
 
-// Word n, of words with a line for each.
-pub(crate) fn line_of(words: &[u8], n: u8) -> &[u8] {
-    let at = word_at(words, n);
-    let end = line_end(words, at);
-    &words[at..end]
+// A character of a form, behind the one before it, if that is no mark of the answer.
+fn listed(before: u8, c: u8, answer: u64, bytes: &[u8]) {
+    match before {
+        b'\'' => number(wide(byte(bytes, (c % 8) as usize))),
+        b'$' => values(bytes, 3, field(answer, c)),
+        b'!' => values(bytes, 2, field(answer, c)),
+        b'+' => values(bytes, 0, from(answer, c)),
+        b'{' | b'~' => {}
+        _ => plain(c),
+    }
 }
 
-pub(crate) fn word(words: &[u8], n: u8) {
-    text(line_of(words, n));
+// A character of a form, behind the one before it.
+fn filled(before: u8, c: u8, answer: u64, bytes: &[u8]) {
+    match before {
+        b'%' => number(field(answer, c)),
+        b'#' => hex(field(answer, c)),
+        b'&' => number(from(answer, c) % 65536),
+        b'*' => number(from(answer, c)),
+        b'@' => letter(10 + field(answer, c) % 16),
+        _ => listed(before, c, answer, bytes),
+    }
 }
 
-// What a writer answered and wrote.
-pub(crate) fn written(w: Written, form: Form, out: &[u8]) {
-    match w {
-        Written::Count(n) => {
-            list(form, out, n as usize);
+// How many choices of a form are left to pass before it prints again, behind the character before; n is the byte that a choice names.
+fn opened(left: u64, before: u8, n: u64) -> u64 {
+    match before {
+        b'{' => n,
+        b'~' => {
+            if n == 0 {
+                return 1;
+            }
+            0
         }
-        Written::Refused(r) => {
-            refused(r);
+        _ => left,
+    }
+}
+
+// The same, at any character.
+fn passed(left: u64, before: u8, c: u8, answer: u64) -> u64 {
+    match c {
+        b'|' => {
+            if left == 0 {
+                return PASSED;
+            }
+            left - 1
         }
+        b'}' => 0,
+        _ => opened(left, before, field(answer, c)),
+    }
+}
+
+// Prints a form of an answer to bytes. N is a digit.
+//   %N byte N of the answer in decimal, #N in hex, @N as the letter of a house; &N the 16 bits from there on, *N all of it from there on
+//   'N byte N of the bytes; $N and !N so many of them as byte N of the answer says, from 3 and from 2 on; +N as *N says, from 0 on
+//   {N..|..} the choice that byte N of the answer numbers, from 0 on; ~N..} what is printed unless that is 0
+fn fill(form: &[u8], answer: u64, bytes: &[u8]) {
+    let mut before = b' ';
+    let mut left = 0;
+    let mut i = 0;
+    while i < form.len() {
+        let c = form[i];
+        left = passed(left, before, c, answer);
+        if left == 0 {
+            filled(before, c, answer, bytes);
+        }
+        before = c;
+        i += 1;
+    }
+}
+
+// Prints a form of a number, with none of the bytes.
+pub(crate) fn fill_in(form: &[u8], n: u64) {
+    fill(form, n, form);
+}
+
+// An answer to bytes: in a form, or the number of a refusal.
+pub(crate) fn show(form: &[u8], answer: u64, bytes: &[u8]) {
+    if answer % 256 == 0 {
+        fill(form, answer, bytes);
+    } else {
+        fill(b" refused %0", answer, bytes);
     }
 }

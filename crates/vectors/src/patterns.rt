@@ -1,102 +1,83 @@
 // X-10 patterns.
-use crate::output;
-use crate::output::Form;
-use crate::output::small;
+use crate::input::byte;
+use crate::input::first;
+use crate::input::wide;
+use crate::output::field;
+use crate::output::number;
+use crate::output::show;
 use crate::output::text;
-use crate::output::word;
-use answer::Written;
-use x10::Pattern;
 
 // The places of an Extended 1.
 const ROOM: usize = 62;
 
-fn at_house(house: u8) {
-    text(b" house ");
-    output::letter(house);
-}
+// The calls that write patterns, but for the last, as main.rt numbers them.
+const WRITE_UNIT: u64 = 10;
 
-fn at_unit(house: u8, unit: u8) {
-    at_house(house);
-    text(b" unit ");
-    small(unit);
-}
+const WRITE_FUNCTION: u64 = 11;
 
-// The function with a code, D8 D4 D2 D1.
-fn function(house: u8, code: u8) {
-    at_house(house);
-    word(
-        b" all units off\n all lights on\n on\n off\n dim\n bright\n all lights off\n\n hail request\n hail acknowledge\n\n\n\n status on\n status off\n status request\n",
-        code,
-    );
-}
+// The kind of a pattern with a function.
+const FUNCTION: u64 = 1;
 
-fn extended(house: u8, unit: u8, data: u8, command: u8) {
-    at_unit(house, unit);
-    text(b" data ");
-    output::hex(data);
-    text(b" command ");
-    output::hex(command);
-}
-
+// A function is numbered by its code, D8 D4 D2 D1.
 pub(crate) fn read(places: &[u8]) {
-    match x10::read(places) {
-        Pattern::Refused(r) => output::refused(r),
-        Pattern::Unit { house, unit } => at_unit(house, unit),
-        Pattern::Function { house, function: f } => function(house, x10::code_of(f)),
-        Pattern::Extended {
-            house,
-            unit,
-            data,
-            command,
-        } => extended(house, unit, data, command),
+    let r = host::patterns::x10_read(places);
+    if field(r, 1) == FUNCTION {
+        show(
+            b" house @2{3 all units off| all lights on| on| off| dim| bright| all lights off|| hail request| hail acknowledge|||| status on| status off| status request}",
+            r,
+            places,
+        );
+    } else {
+        show(b" house @2 unit %3{1|| data #4 command #5}", r, places);
     }
 }
 
-// The places that a writer wrote, and what is read from them.
-fn written(w: Written, out: &[u8]) {
-    match w {
-        Written::Count(n) => {
-            text(b" ");
-            output::list(Form::Place, out, n as usize);
-            text(b" reads");
-            read_first(out, n as usize);
-        }
-        Written::Refused(r) => output::refused(r),
+// A place, with a blank where a part of the pattern ends before it: start, house, key, unit, data.
+fn place(b: u8, i: usize) {
+    match i {
+        4 | 12 | 22 | 30 | 46 => text(b" "),
+        _ => {}
+    }
+    number(wide(b));
+}
+
+fn list(places: &[u8]) {
+    let mut i = 0;
+    while i < places.len() {
+        place(places[i], i);
+        i += 1;
     }
 }
 
-fn read_first(out: &[u8], n: usize) {
-    if n <= out.len() {
-        read(&out[..n]);
+// By the call: house and unit, house and function code, or house, unit, data and command.
+fn write_to(call: u64, house: u8, key: u8, data: u8, command: u8, out: &mut [u8]) -> u64 {
+    match call {
+        WRITE_UNIT => host::patterns::x10_write_unit(house, key, out),
+        WRITE_FUNCTION => host::patterns::x10_write_function(house, key, out),
+        _ => host::patterns::x10_write_extended(house, key, data, command, out),
     }
 }
 
-// House 00 to 0F, unit 01 to 10.
-pub(crate) fn write_unit(bytes: &[u8]) {
-    if bytes.len() < 2 {
-        return;
+// What a writer answered and wrote, and what is read from that.
+fn written(r: u64, out: &[u8]) {
+    show(b" ", r, out);
+    let places = first(out, (r / 256) as usize);
+    if places.len() > 0 {
+        list(places);
+        text(b" reads");
+        read(places);
     }
+}
+
+pub(crate) fn write(call: u64, b: &[u8]) {
     let mut out = [0u8; ROOM];
-    let w = x10::write_unit(bytes[0], bytes[1], &mut out);
-    written(w, &out);
-}
-
-// House, function code.
-pub(crate) fn write_function(bytes: &[u8]) {
-    if bytes.len() < 2 {
-        return;
-    }
-    let mut out = [0u8; ROOM];
-    let w = x10::write_function_code(bytes[0], bytes[1], &mut out);
-    written(w, &out);
-}
-
-// House, unit, data, command.
-pub(crate) fn write_extended(bytes: &[u8]) {
-    if bytes.len() < 4 {
-        return;
-    }
-    let mut out = [0u8; ROOM];
-    let w = x10::write_extended(bytes[0], bytes[1], bytes[2], bytes[3], &mut out);
-    written(w, &out);
+    let r = write_to(
+        call,
+        byte(b, 0),
+        byte(b, 1),
+        byte(b, 2),
+        byte(b, 3),
+        &mut out,
+    );
+    written(r, &out);
 }

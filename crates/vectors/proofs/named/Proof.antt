@@ -1,19 +1,29 @@
 use borrow.Author.Needs.{needs}
 use Prim.Native.Nat.{_-_, _≤_}
+use lib.ListN.{length}
 use Rattle.vectors.proofs.named.Statement.{statement}
 use Rattle.vectors.proofs.named.Tie as tie
 
 abbrev Inv-loop : tie.InvT-loop
-Inv-loop line names call₀ t4 call = call ≤ 17
+Inv-loop line names at₀ call₀ t6 at call = call ≤ at
 
 abbrev μ-loop : tie.MeasureT-loop
-μ-loop line names call₀ t4 call = 17 - call
+μ-loop line names at₀ call₀ t6 at call = length names - at
 
 loop-holds : tie.Need-loop-holds Inv-loop μ-loop
 loop-holds c = search needs
 
-line-of-requires : tie.Need-line-of-requires Inv-loop μ-loop
-line-of-requires c κs = search needs
+line-end-requires : tie.Need-line-end-requires Inv-loop μ-loop
+line-end-requires c κs = search needs
+
+sub-starts : tie.Need-sub-starts Inv-loop μ-loop
+sub-starts c = search needs
+
+part-starts-start : tie.Need-part-starts-start Inv-loop μ-loop
+part-starts-start c = search needs
+
+part-starts-end : tie.Need-part-starts-end Inv-loop μ-loop
+part-starts-end c = search needs
 
 starts-requires : tie.Need-starts-requires Inv-loop μ-loop
 starts-requires c κs = search needs
@@ -26,6 +36,9 @@ text-requires c κs = search needs
 
 returns : tie.Need-returns Inv-loop μ-loop
 returns c = search needs
+
+add-at : tie.Need-add-at Inv-loop μ-loop
+add-at c = search needs
 
 add-call : tie.Need-add-call Inv-loop μ-loop
 add-call c = search needs
@@ -46,11 +59,15 @@ named-spec =
     Inv-loop
     μ-loop
     loop-holds
-    line-of-requires
+    line-end-requires
+    sub-starts
+    part-starts-start
+    part-starts-end
     starts-requires
     slice-aggregate-text
     text-requires
     returns
+    add-at
     add-call
     loop-less
     loop-again

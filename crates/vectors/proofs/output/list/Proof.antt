@@ -1,14 +1,14 @@
 use borrow.Author.Needs.{needs}
-use Prim.Native.Nat.{_-_, _≤_}
+use Prim.Native.Nat.{_-_}
 use lib.ListN.{length}
 use Rattle.vectors.proofs.output.list.Statement.{statement}
 use Rattle.vectors.proofs.output.list.Tie as tie
 
 abbrev Inv-loop : tie.InvT-loop
-Inv-loop form bytes count i₀ i = i ≤ length bytes
+Inv-loop bytes i₀ i = Unit {0}
 
 abbrev μ-loop : tie.MeasureT-loop
-μ-loop form bytes count i₀ i = length bytes - i
+μ-loop bytes i₀ i = length bytes - i
 
 loop-holds : tie.Need-loop-holds Inv-loop μ-loop
 loop-holds c = search needs

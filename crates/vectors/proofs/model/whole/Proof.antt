@@ -2,8 +2,8 @@ use borrow.Author.Needs.{needs}
 use lib.Dec.{T}
 use lib.Ieee.{ofBits, neg}
 use mathlib.Core.Path.{sym, subst}
-use Rattle.vectors.proofs.model.whole_f64.Statement.{statement}
-use Rattle.vectors.proofs.model.whole_f64.Tie as tie
+use Rattle.vectors.proofs.model.whole.Statement.{statement}
+use Rattle.vectors.proofs.model.whole.Tie as tie
 
 truncating-f64-to-u64-requires : tie.Need-truncating-f64-to-u64-requires
 unfolding ofBits neg
@@ -18,5 +18,5 @@ returns-2 c = search needs
 returns-3 : tie.Need-returns-3
 returns-3 c = search needs
 
-pub whole-f64-spec : {M : Type 1} → statement M
-whole-f64-spec = tie.close (tie.spec truncating-f64-to-u64-requires returns returns-2 returns-3)
+pub whole-spec : {M : Type 1} → statement M
+whole-spec = tie.close (tie.spec truncating-f64-to-u64-requires returns returns-2 returns-3)

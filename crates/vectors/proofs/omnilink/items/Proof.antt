@@ -1,7 +1,7 @@
 use borrow.Author.Needs.{needs}
 use Prim.Native.Nat.{_-_, _≤_}
-use Rattle.vectors.proofs.items.items.Statement.{statement}
-use Rattle.vectors.proofs.items.items.Tie as tie
+use Rattle.vectors.proofs.omnilink.items.Statement.{statement}
+use Rattle.vectors.proofs.omnilink.items.Tie as tie
 
 abbrev Inv-loop : tie.InvT-loop
 Inv-loop list bytes count i₀ i = i ≤ count
