@@ -1,5 +1,5 @@
-/* The listing of captures of 4,096 bytes: with room for any listing, where ours does not measure, and with no more room than
-   needed. The plain one keeps the places of the frames, measures the text and writes it. */
+/* The listing of captures of 4,096 bytes: with room for any listing, where neither side measures, and with no more room than
+   needed. The plain one keeps the places of the frames, measures the text where it might not fit, and writes it. */
 #include "bench.h"
 #include "frame.h"
 #include "gateway.h"
@@ -47,7 +47,7 @@ static inline uint8_t *put(uint8_t *out, const char *word, size_t len, size_t n)
     return out + len + count;
 }
 
-static inline void put_lines(const uint8_t *s, size_t len, const uint16_t *at, size_t frames, uint8_t *out)
+static inline uint8_t *put_lines(const uint8_t *s, size_t len, const uint16_t *at, size_t frames, uint8_t *out)
 {
     size_t from = 0;
     for (size_t k = 0; k <= frames; k++) {
@@ -63,16 +63,16 @@ static inline void put_lines(const uint8_t *s, size_t len, const uint16_t *at, s
     }
     out = put(out, "end ", 4, len);
     *out = '\n';
+    return out + 1;
 }
 
 PLAIN uint64_t plain_listing(const uint8_t *s, size_t len, uint8_t *out, size_t room)
 {
     uint16_t at[FRAMES];
     if (len > CAPTURE) return 3;
-    size_t frames = find(s, len, at), size = measure(s, len, at, frames);
-    if (room < size) return 9;
-    put_lines(s, len, at, frames, out);
-    return (uint64_t)size << 8;
+    size_t frames = find(s, len, at);
+    if (room < 8 * len + 25 && room < measure(s, len, at, frames)) return 9;
+    return (uint64_t)(put_lines(s, len, at, frames, out) - out) << 8;
 }
 
 static uint8_t capture[CAPTURE], text[ROOM];

@@ -118,7 +118,7 @@ PLAIN uint64_t plain_command(const uint8_t *s, size_t size)
     size_t items;
     unsigned refusal = read_refusal(s, size, &items);
     if (refusal) return refusal;
-    if (s[2] != 0x0F) return 6;
+    if (s[2] != 0x0F) return 8;
     unsigned command = s[3], p1 = s[4], unit = 0, p2 = (unsigned)s[5] << 8 | s[6];
     if (command <= 1 && p1 != 0) {
         unit = p1 < 100 ? 1 : p1 < 200 ? 2 : 3;
@@ -132,8 +132,7 @@ PLAIN uint64_t plain_log(const uint8_t *s, size_t size, size_t field)
     size_t items;
     unsigned refusal = read_refusal(s, size, &items);
     if (refusal) return refusal;
-    if (s[2] != 0x0E) return 6;
-    if (field > 8) return 8;
+    if (s[2] != 0x0E || field > 8) return 8;
     return field == 8 ? (unsigned)s[11] << 16 | s[12] << 8 : (unsigned)s[field + 3] << 8;
 }
 

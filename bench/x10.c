@@ -14,11 +14,12 @@ static inline int are_places(const uint8_t *p, int count)
     return bits <= 1;
 }
 
+/* The number that pairs of places spell, or -1; pairs that make 1 are 0 and 1. */
 static inline int spell(const uint8_t *p, int bits)
 {
     int n = 0;
     for (int i = 0; i < bits; i++, p += 2) {
-        if (p[0] == p[1]) return -1;
+        if (p[0] + p[1] != 1) return -1;
         n = n * 2 + p[0];
     }
     return n;
@@ -32,19 +33,17 @@ static inline uint64_t pack(uint64_t kind, uint64_t house, uint64_t key, uint64_
 PLAIN uint64_t plain_read(const uint8_t *p, size_t len)
 {
     if (len < 22) return 1;
-    if (!are_places(p, 22)) return 8;
-    if (p[0] != 1 || p[1] != 1 || p[2] != 1 || p[3] != 0) return 2;
+    if (p[0] != 1 || p[1] != 1 || p[2] != 1 || p[3] != 0) return are_places(p, 22) ? 2 : 8;
     int house = spell(p + 4, 4), key = spell(p + 12, 4), d16 = spell(p + 20, 1);
-    if (house < 0 || key < 0 || d16 < 0) return 5;
+    if (house < 0 || key < 0 || d16 < 0) return are_places(p, 22) ? 5 : 8;
     if (d16 == 0) return len > 22 ? 4 : pack(0, INDEX[house], INDEX[key] + 1, 0, 0);
     if (key != 7) {
         if (key == 10 || key == 11 || key == 12) return 6;
         return len > 22 ? 4 : pack(1, INDEX[house], key, 0, 0);
     }
     if (len < 62) return 1;
-    if (!are_places(p + 22, 40)) return 8;
     int unit = spell(p + 22, 4), data = spell(p + 30, 8), command = spell(p + 46, 8);
-    if (unit < 0 || data < 0 || command < 0) return 5;
+    if (unit < 0 || data < 0 || command < 0) return are_places(p + 22, 40) ? 5 : 8;
     return len > 62 ? 4 : pack(2, INDEX[house], INDEX[unit] + 1, data, command);
 }
 

@@ -8,7 +8,7 @@
 
    A buffer is passed as a pointer and a length; a null pointer with length 0 is an empty buffer. What a call writes to (out, a
    register map, a tally) overlaps nothing else that the same call is lent: neither what it reads nor what else it writes to.
-   A writer changes the bytes that it counts as written, and leaves out past them as it was. */
+   A writer changes the bytes that it counts as written; the bytes of out behind them stay as they were. */
 #ifndef GATEWAY_H
 #define GATEWAY_H
 
