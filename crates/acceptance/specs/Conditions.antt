@@ -41,9 +41,11 @@ pub record Inverse {M : Type 0} (read : List ℕ → Outcome M) (write : M → O
   pub read-back : (m : M) (s : List ℕ) → Written m → write m ≡ accepted s → read s ≡ accepted m
   pub write-back : (s : List ℕ) (m : M) → Sent s → read s ≡ accepted m → write m ≡ accepted s
 
+-- no bound on what is written or sent
 abbrev pub Any : {A : Type 0} → A → Type 0
 Any a = Unit {0}
 
+-- what is sent is a list of bytes
 abbrev pub Bytes : List ℕ → Type 0
 Bytes s = T (areBytes s)
 
