@@ -1,44 +1,18 @@
 // X-10 patterns, for C.
-use answer::pack_5_bytes;
-use answer::pack_refusal;
 use answer::pack_written;
-use x10::Pattern;
 ghost use mathlib.Core.Path.{_≡_};
 ghost use mathlib.Core.List.{[], _∷_};
 ghost use lib.ListN.{length};
 ghost use Rattle.answer.specs.Answer.{onAccepted, inRoom, outAfter};
 ghost use Rattle.answer.specs.Packed.{packed, word};
-ghost use Rattle.x10.specs.Answers.{outcomeOf, fields};
+ghost use Rattle.x10.specs.Answers.{fields};
 ghost use Rattle.x10.specs.Pattern.{read, write, unit as Unit′, extended, writeFunctionCode};
-
-// A reader's packed answer: kind, house, unit or function code, data, command.
-fn pack_pattern(p: Pattern) -> u64
-    ensures { λ n. ⌜ n ≡ packed (onAccepted fields (outcomeOf p)) ⌝ }
-{
-    match p {
-        Pattern::Refused(r) => pack_refusal(r),
-        Pattern::Unit { house, unit } => pack_5_bytes(0, house, unit, 0, 0),
-        Pattern::Function { house, function } => pack_5_bytes(
-            1,
-            house,
-            x10::code_of(function),
-            0,
-            0,
-        ),
-        Pattern::Extended {
-            house,
-            unit,
-            data,
-            command,
-        } => pack_5_bytes(2, house, unit, data, command),
-    }
-}
 
 #[no_mangle]
 pub extern "C" fn x10_read(places: &[u8]) -> u64
     ensures { λ n. ⌜ n ≡ packed (onAccepted fields (read (now (places .entry)))) ⌝ }
 {
-    pack_pattern(x10::read(places))
+    x10::read_packed(places)
 }
 
 #[no_mangle]

@@ -25,8 +25,8 @@ const CODES: [u8; 16] = [
     0b1100,
 ];
 
-// The place of each code in the list above.
-const INDEX: [u8; 16] = [12, 4, 2, 10, 14, 6, 0, 8, 13, 5, 3, 11, 15, 7, 1, 9];
+// The place of each code in the list above, a digit for each, that of code 0 last.
+const INDEX: u64 = 0x917F_B35D_806E_A24C;
 
 // The key of Extended 1.
 pub const EXTENDED_1: u8 = 0b0111;
@@ -48,7 +48,7 @@ pub(crate) fn index_of(code: u8) -> u8
     requires { ⌜ code < 16 ⌝ }
     ensures { λ r. ⌜ r ≡ indexOf code ⌝ }
 {
-    INDEX[code as usize]
+    ((INDEX >> (code * 4)) % 16) as u8
 }
 
 // The function with a code, D8 D4 D2 D1.

@@ -1,6 +1,7 @@
 // X-10 patterns (document 01, "X-10 patterns"): a number, 0 or 1, for each half cycle, in a byte of its own.
 mod codes; // codes.rt: the code list of houses and units, and the table of functions
 mod pairs; // pairs.rt: bits and their complements, read from places and put into them
+mod packed; // packed.rt: the reader for C, whose answer is one number
 mod parts; // parts.rt: the parts of a pattern, after the first checks
 
 use answer::Refusal;
@@ -8,17 +9,20 @@ use answer::Written;
 use codes::Lookup;
 use codes::code_at;
 use codes::function_of;
+use packed::pack_key;
+use packed::read_anew;
+use pairs::are_places;
 use parts::STANDARD;
 use parts::read_key;
-use parts::refuse;
 use parts::starts;
 use parts::write_long;
 use parts::write_standard;
 ghost use mathlib.Core.Path.{_≡_};
 ghost use lib.ListN.{length};
 ghost use Rattle.answer.specs.Answer.{writtenOf, onAccepted, inRoom, outAfter};
+ghost use Rattle.answer.specs.Packed.{packed};
 ghost use Rattle.x10.specs.Codes.{functionCode};
-ghost use Rattle.x10.specs.Answers.{outcomeOf};
+ghost use Rattle.x10.specs.Answers.{outcomeOf, fields};
 ghost use Rattle.x10.specs.Pattern.{read, write, unit as Unit′, function, extended, writeFunctionCode};
 
 // House P, and unit 16.
@@ -81,17 +85,33 @@ pub fn code_of(f: Function) -> u8
     }
 }
 
-// Reads a pattern: 1, then 8 before 2 on the first 22 places (`refuse`), then what they say.
+// Reads a pattern: 1, 8 and 2 on the first 22 places, then what they say.
 pub fn read(places: &[u8]) -> Pattern
     ensures { λ r. ⌜ outcomeOf r ≡ read (now (places .entry)) ⌝ }
 {
     if places.len() < STANDARD {
         return Pattern::Refused(Refusal::Short);
     }
+    if !are_places(places, 0, STANDARD) {
+        return Pattern::Refused(Refusal::Field);
+    }
     if !starts(places) {
-        return refuse(places, 0, STANDARD, Refusal::Start);
+        return Pattern::Refused(Refusal::Start);
     }
     read_key(places)
+}
+
+// Reads a pattern, for C: kind 0, 1 or 2, house, unit or function code, data, command.
+pub fn read_packed(places: &[u8]) -> u64
+    ensures { λ n. ⌜ n ≡ packed (onAccepted fields (read (now (places .entry)))) ⌝ }
+{
+    if places.len() < STANDARD {
+        return read_anew(places);
+    }
+    if !starts(places) {
+        return read_anew(places);
+    }
+    pack_key(places)
 }
 
 // Writes a house and a unit.

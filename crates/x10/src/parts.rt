@@ -28,17 +28,17 @@ pub const STANDARD: usize = 22;
 pub const EXTENDED: usize = 62;
 
 // Where each part starts, after the start code.
-const HOUSE: usize = 4;
+pub const HOUSE: usize = 4;
 
-const KEY: usize = 12;
+pub const KEY: usize = 12;
 
-const D16: usize = 20;
+pub const D16: usize = 20;
 
-const UNIT: usize = 22;
+pub const UNIT: usize = 22;
 
-const DATA: usize = 30;
+pub const DATA: usize = 30;
 
-const COMMAND: usize = 46;
+pub const COMMAND: usize = 46;
 
 // Whether the places begin with the start code 1110.
 pub(crate) fn starts(places: &[u8]) -> bool
@@ -57,34 +57,22 @@ pub(crate) fn starts(places: &[u8]) -> bool
     places[3] == 0
 }
 
-// Refuses places from `from` up to `to` that are wrong in some way: 8 where one is neither 0 nor 1, else as given. A start code and bits that
-// each make 1 with their complement are 0 or 1, so that only what is refused otherwise is looked at place by place.
-pub(crate) fn refuse(places: &[u8], from: usize, to: usize, otherwise: Refusal) -> Pattern
-    requires { ⌜ (from ≤ to) × (to ≤ length (now places)) ⌝ }
-    ensures { λ r. ⌜ outcomeOf r ≡ refuseIf (not (arePlaces (slice from to (now (places .entry))))) 8 (refused (numberOf otherwise)) ⌝ }
-{
-    if !are_places(places, from, to) {
-        return Pattern::Refused(Refusal::Field);
-    }
-    Pattern::Refused(otherwise)
-}
-
-// House and key, after the start code: 8 or 5, then by the key.
+// House and key: 5, then by the key.
 pub(crate) fn read_key(places: &[u8]) -> Pattern
-    requires { ⌜ (22 ≤ length (now places)) × (startsWith startCode (now places) ≡ true) ⌝ }
-    ensures { λ r. ⌜ outcomeOf r ≡ refuseIf (not (arePlaces (slice 0 22 (now (places .entry))))) 8 (readKey (now (places .entry))) ⌝ }
+    requires { ⌜ 22 ≤ length (now places) ⌝ }
+    ensures { λ r. ⌜ outcomeOf r ≡ readKey (now (places .entry)) ⌝ }
 {
     let house_bits = spelled(places, HOUSE, 4);
     let Spelling::Number(house) = house_bits else {
-        return refuse(places, 0, STANDARD, Refusal::Checksum);
+        return Pattern::Refused(Refusal::Checksum);
     };
     let key_bits = spelled(places, KEY, 4);
     let Spelling::Number(key) = key_bits else {
-        return refuse(places, 0, STANDARD, Refusal::Checksum);
+        return Pattern::Refused(Refusal::Checksum);
     };
     let d16_bits = spelled(places, D16, 1);
     let Spelling::Number(d16) = d16_bits else {
-        return refuse(places, 0, STANDARD, Refusal::Checksum);
+        return Pattern::Refused(Refusal::Checksum);
     };
     if d16 == 0 {
         if places.len() > STANDARD {
@@ -127,17 +115,20 @@ fn read_rest(places: &[u8], house: u8) -> Pattern
     if places.len() < EXTENDED {
         return Pattern::Refused(Refusal::Short);
     }
+    if !are_places(places, STANDARD, EXTENDED) {
+        return Pattern::Refused(Refusal::Field);
+    }
     let key_bits = spelled(places, UNIT, 4);
     let Spelling::Number(key) = key_bits else {
-        return refuse(places, STANDARD, EXTENDED, Refusal::Checksum);
+        return Pattern::Refused(Refusal::Checksum);
     };
     let data_bits = spelled(places, DATA, 8);
     let Spelling::Number(data) = data_bits else {
-        return refuse(places, STANDARD, EXTENDED, Refusal::Checksum);
+        return Pattern::Refused(Refusal::Checksum);
     };
     let command_bits = spelled(places, COMMAND, 8);
     let Spelling::Number(command) = command_bits else {
-        return refuse(places, STANDARD, EXTENDED, Refusal::Checksum);
+        return Pattern::Refused(Refusal::Checksum);
     };
     if EXTENDED < places.len() {
         return Pattern::Refused(Refusal::Long);

@@ -1,8 +1,8 @@
--- The code list is a bijection of the 16 codes: one test over the list and over the places of its codes. Assumes nothing.
+-- The code list is a bijection of the 16 codes: one test over the list and over the digits of its places. Assumes nothing.
 use mathlib.Core.Path.{_≡_, refl, sym, ap, _∙_}
 use mathlib.Core.Bool.{Bool, true, false, not, cond, _&&_}
 use mathlib.Core.List.{List, [], _∷_}
-use Prim.Native.Nat.{ℕ, _<_}
+use Prim.Native.Nat.{ℕ, _<_, _*_, _/_, _%_, _^_}
 use lib.Dec.{T, eqb, ltb, eqb→eq, ltb→lt}
 use lib.ListN.{getD}
 use native.Mathlib.Omega.{arith}
@@ -18,12 +18,12 @@ use Rattle.answer.proofs.Laws.Table.{both-left, both-right, holds as is-true, a
 rule : ℕ → ℕ → Bool
 rule i x = ltb x 16 && (eqb (indexOf x) i && (ltb (indexOf i) 16 && eqb (codeAt (indexOf i)) i))
 
--- the place of each code, by code
-abbrev pub places : List ℕ
-places = 12 ∷ 4 ∷ 2 ∷ 10 ∷ 14 ∷ 6 ∷ 0 ∷ 8 ∷ 13 ∷ 5 ∷ 3 ∷ 11 ∷ 15 ∷ 7 ∷ 1 ∷ 9 ∷ []
+-- the digits that say where each code stands, that of code 0 last
+abbrev pub digits : ℕ
+digits = 0x917FB35D806EA24C
 
 right : ℕ → ℕ → Bool
-right code x = eqb x (indexOf code)
+right i x = eqb (digits / 2 ^ (i * 4) % 16) (indexOf i)
 
 module _ (i : ℕ) (h : i < 16) where
   holds : T (rule i (codeAt i))
@@ -53,10 +53,9 @@ module _ (i : ℕ) (h : i < 16) where
   pub code-at-index : codeAt (indexOf i) ≡ i
   code-at-index = eqb→eq (codeAt (indexOf i)) i (both-right (ltb (indexOf i) 16) (eqb (codeAt (indexOf i)) i) back)
 
-  -- the table of places says where each code stands
-  pub place-of : getD places i 0 ≡ indexOf i
+  pub place-of : digits / 2 ^ (i * 4) % 16 ≡ indexOf i
   unfolding right indexOf
-  place-of = eqb→eq (getD places i 0) (indexOf i) (at right places tt i h)
+  place-of = eqb→eq (digits / 2 ^ (i * 4) % 16) (indexOf i) (at right codes tt i h)
 
 -- each function is found by its code
 pub function-found : (f : Function) → functionOf (functionCode f) ≡ accepted f

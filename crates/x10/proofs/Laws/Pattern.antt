@@ -1,6 +1,6 @@
 -- The readers' checks, each decided by a fact. Assumes nothing.
 use mathlib.Core.Path.{_≡_, refl, _∙_}
-use mathlib.Core.Bool.{true, false, not, _&&_, and-true}
+use mathlib.Core.Bool.{true, false, _&&_, and-true}
 use mathlib.Core.List.{List, [], _∷_}
 use Prim.Native.Nat.{ℕ, _+_, _≤_, _<_}
 use native.Mathlib.Omega.{arith}
@@ -8,7 +8,7 @@ use lib.Dec.{eqb}
 use lib.ListN.{length, getD}
 use lib.Seq.{slice}
 use borrow.Author.Tests.{lt-ltb, le-ltb, eq-eqb, ne-eqb}
-use Rattle.answer.specs.Answer.{Outcome, refused, accepted, refuseIf}
+use Rattle.answer.specs.Answer.{refused, accepted}
 use Rattle.x10.specs.declared.Function.{Function}
 use Rattle.x10.specs.Codes.{indexOf, extended1, functionOf}
 use Rattle.x10.specs.Places.{arePlaces, startCode, startsWith, spelled}
@@ -40,13 +40,13 @@ module _ (ps : List ℕ) where
   unfolding read
   read-short h = simp (lt-ltb (length ps) 22 h)
 
-  pub read-start : 22 ≤ length ps → startsWith startCode ps ≡ false → read ps ≡ refuseIf (not (arePlaces (slice 0 22 ps))) 8 (refused 2)
+  pub read-wrong : 22 ≤ length ps → arePlaces (slice 0 22 ps) ≡ false → read ps ≡ refused 8
   unfolding read
-  read-start h s = simp (le-ltb (length ps) 22 h, s)
+  read-wrong h e = simp (le-ltb (length ps) 22 h, e)
 
-  pub read-key : 22 ≤ length ps → startsWith startCode ps ≡ true → read ps ≡ refuseIf (not (arePlaces (slice 0 22 ps))) 8 (readKey ps)
+  pub read-start : 22 ≤ length ps → arePlaces (slice 0 22 ps) ≡ true → startsWith startCode ps ≡ false → read ps ≡ refused 2
   unfolding read
-  read-key h s = simp (le-ltb (length ps) 22 h, s)
+  read-start h e s = simp (le-ltb (length ps) 22 h, e, s)
 
   pub read-on : 22 ≤ length ps → arePlaces (slice 0 22 ps) ≡ true → startsWith startCode ps ≡ true → read ps ≡ readKey ps
   unfolding read
@@ -94,25 +94,25 @@ module _ (ps : List ℕ) where
     unfolding readRest
     rest-short l = simp (lt-ltb (length ps) 62 l)
 
-    module _ (l : 62 ≤ length ps) where
-      abbrev wrong : Outcome Message
-      wrong = refuseIf (not (arePlaces (slice 22 62 ps))) 8 (refused 5)
+    pub rest-wrong : 62 ≤ length ps → arePlaces (slice 22 62 ps) ≡ false → readRest ps h ≡ refused 8
+    unfolding readRest
+    rest-wrong l v = simp (le-ltb (length ps) 62 l, v)
 
-      pub rest-key-wrong : spelled (slice 22 30 ps) ≡ refused 5 → readRest ps h ≡ wrong
+    module _ (l : 62 ≤ length ps) (v : arePlaces (slice 22 62 ps) ≡ true) where
+      pub rest-key-wrong : spelled (slice 22 30 ps) ≡ refused 5 → readRest ps h ≡ refused 5
       unfolding readRest
-      rest-key-wrong e = simp (le-ltb (length ps) 62 l, e)
+      rest-key-wrong e = simp (le-ltb (length ps) 62 l, v, e)
 
       module _ (k : ℕ) (ek : spelled (slice 22 30 ps) ≡ accepted k) where
-        pub data-wrong : spelled (slice 30 46 ps) ≡ refused 5 → readRest ps h ≡ wrong
+        pub data-wrong : spelled (slice 30 46 ps) ≡ refused 5 → readRest ps h ≡ refused 5
         unfolding readRest
-        data-wrong e = simp (le-ltb (length ps) 62 l, ek, e)
+        data-wrong e = simp (le-ltb (length ps) 62 l, v, ek, e)
 
         module _ (d : ℕ) (ed : spelled (slice 30 46 ps) ≡ accepted d) where
-          pub command-wrong : spelled (slice 46 62 ps) ≡ refused 5 → readRest ps h ≡ wrong
+          pub command-wrong : spelled (slice 46 62 ps) ≡ refused 5 → readRest ps h ≡ refused 5
           unfolding readRest
-          command-wrong e = simp (le-ltb (length ps) 62 l, ek, ed, e)
+          command-wrong e = simp (le-ltb (length ps) 62 l, v, ek, ed, e)
 
-          pub rest-read : arePlaces (slice 22 62 ps) ≡ true → (c : ℕ) → spelled (slice 46 62 ps) ≡ accepted c
-              → readRest ps h ≡ ending 62 ps (extended (indexOf h) (indexOf k + 1) d c)
+          pub rest-read : (c : ℕ) → spelled (slice 46 62 ps) ≡ accepted c → readRest ps h ≡ ending 62 ps (extended (indexOf h) (indexOf k + 1) d c)
           unfolding readRest
-          rest-read v c ec = simp (le-ltb (length ps) 62 l, v, ek, ed, ec)
+          rest-read c ec = simp (le-ltb (length ps) 62 l, v, ek, ed, ec)

@@ -91,7 +91,7 @@ read-extended h k d c hh hk hd hc =
     let ps : List ℕ = standard h extended1 1 ++ extension k d c in
     begun-function h extended1 1 (extension k d c) hh (omega arith) (omega arith) (omega arith)
     ∙ function-extended ps h extended1 refl
-    ∙ rest-read ps h (omega arith) k (spelled-bits 4 k hk) d (spelled-bits 8 d hd) (extension-places k d c) c (spelled-bits 8 c hc)
+    ∙ rest-read ps h (omega arith) (extension-places k d c) k (spelled-bits 4 k hk) d (spelled-bits 8 d hd) c (spelled-bits 8 c hc)
     ∙ ends ps (extended (indexOf h) (indexOf k + 1) d c) 62 (omega arith)
 
 -- the house and the unit of what was written

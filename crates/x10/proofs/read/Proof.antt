@@ -2,7 +2,7 @@
 use mathlib.Core.Path.{sym, _∙_}
 use denote.Ref.{now}
 use borrow.Author.Tests.{not-true, not-false}
-use Rattle.x10.proofs.Laws.Pattern.{read-short, read-start, read-key}
+use Rattle.x10.proofs.Laws.Pattern.{read-short, read-wrong, read-start, read-on}
 use borrow.Author.Needs.{needs}
 use Rattle.x10.proofs.read.Statement.{statement}
 use Rattle.x10.proofs.read.Tie as tie
@@ -10,24 +10,41 @@ use Rattle.x10.proofs.read.Tie as tie
 returns : tie.Need-returns
 returns c = sym (read-short (now (c .before .before .args .places)) (c .if1 .taken))
 
-starts-requires : tie.Need-starts-requires
-starts-requires c κs = search needs
-
-refuse-requires : tie.Need-refuse-requires
-refuse-requires c κs = search needs
+are-places-requires : tie.Need-are-places-requires
+are-places-requires c κs = search needs
 
 returns-2 : tie.Need-returns-2
 returns-2 c =
-    c .refuse .ensures ∙ sym (read-start (now (c .before .before .before .before .before .args .places)) (c .before .before .before .if1 .left) (sym (c .before .before .starts .ensures) ∙ not-true _ (c .before .if2 .taken)))
+    let w = c .before .before in
+    sym (read-wrong (now (w .before .before .args .places)) (w .if1 .left) (sym (c .before .are-places .ensures) ∙ not-true _ (c .if2 .taken)))
 
-read-key-requires : tie.Need-read-key-requires
-read-key-requires c κs = (c .before .before .if1 .left, sym (c .before .starts .ensures) ∙ not-false _ (c .if2 .left))
+starts-requires : tie.Need-starts-requires
+starts-requires c κs = search needs
 
 returns-3 : tie.Need-returns-3
 returns-3 c =
-    c .read-key .ensures ∙ sym (read-key (now (c .before .before .before .before .before .args .places)) (c .before .before .before .if1 .left) (sym (c .before .before .starts .ensures) ∙ not-false _ (c .before .if2 .left)))
+    let w = c .before .before in
+    sym
+    (read-start (now (w .before .before .before .before .args .places)) (w .before .before .if1 .left) (sym (w .before .are-places .ensures) ∙ not-false _ (w .if2 .left)) (sym (c .before .starts .ensures) ∙ not-true _ (c .if3 .taken)))
+
+read-key-requires : tie.Need-read-key-requires
+read-key-requires c κs = search needs
+
+returns-4 : tie.Need-returns-4
+returns-4 c =
+    let w = c .before .before .before in
+    c .read-key .ensures
+    ∙ sym
+    (read-on (now (w .before .before .before .before .args .places)) (w .before .before .if1 .left) (sym (w .before .are-places .ensures) ∙ not-false _ (w .if2 .left)) (sym (c .before .before .starts .ensures) ∙ not-false _ (c .before .if3 .left)))
 
 pub read-spec : {M : Type 1} → statement M
 read-spec =
     tie.close
-    (tie.spec returns starts-requires refuse-requires returns-2 read-key-requires returns-3)
+    (tie.spec
+    returns
+    are-places-requires
+    returns-2
+    starts-requires
+    returns-3
+    read-key-requires
+    returns-4)

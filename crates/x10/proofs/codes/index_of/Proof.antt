@@ -4,11 +4,20 @@ use Rattle.x10.proofs.Laws.Codes.{place-of}
 use Rattle.x10.proofs.codes.index_of.Statement.{statement}
 use Rattle.x10.proofs.codes.index_of.Tie as tie
 
-array-read-result : tie.Need-array-read-result
-array-read-result c = search needs
+mul-result : tie.Need-mul-result
+mul-result c = search needs
+
+cast-result : tie.Need-cast-result
+cast-result c = search needs
+
+shr-result : tie.Need-shr-result
+shr-result c = search needs
+
+cast-result-2 : tie.Need-cast-result-2
+cast-result-2 c = search needs
 
 returns : tie.Need-returns
 returns c = place-of (c .args .code) (c .pre)
 
 pub index-of-spec : {M : Type 1} → statement M
-index-of-spec = tie.close (tie.spec array-read-result returns)
+index-of-spec = tie.close (tie.spec mul-result cast-result shr-result cast-result-2 returns)

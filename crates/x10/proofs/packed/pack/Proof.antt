@@ -1,14 +1,14 @@
--- `pack_pattern` meets its contract, case by case. Assumes nothing.
+-- `pack` meets its contract, case by case. Assumes nothing.
 use mathlib.Core.Path.{sym, ap, _∙_}
 use mathlib.Core.List.{[], _∷_}
 use Prim.Native.Nat.{ℕ}
 use Rattle.answer.specs.Answer.{accepted, onAccepted}
 use Rattle.answer.specs.Packed.{packed, byte}
 use Rattle.x10.specs.declared.Pattern.{Pattern}
 use Rattle.x10.specs.Answers.{outcomeOf, fields}
 use borrow.Author.Needs.{needs}
-use Rattle.host.proofs.patterns.pack_pattern.Statement.{statement}
-use Rattle.host.proofs.patterns.pack_pattern.Tie as tie
+use Rattle.x10.proofs.packed.pack.Statement.{statement}
+use Rattle.x10.proofs.packed.pack.Tie as tie
 
 enum-known-p : tie.Need-enum-known-p
 enum-known-p c = search needs
@@ -55,8 +55,8 @@ returns-4 : tie.Need-returns-4
 returns-4 c =
     c .pack-5-bytes3 .ensures ∙ ap (λ (q : Pattern). packed (onAccepted fields (outcomeOf q))) (sym (c .before .before .p4 .given .1))
 
-pub pack-pattern-spec : {M : Type 1} → statement M
-pack-pattern-spec =
+pub pack-spec : {M : Type 1} → statement M
+pack-spec =
     tie.close
     (tie.spec
     enum-known-p

@@ -1,0 +1,87 @@
+-- `pack_function` meets its contract: a function of the table is packed, all else is read anew. Assumes nothing.
+use mathlib.Core.Path.{_≡_, sym, ap, ap₂, _∙_}
+use Prim.Native.Nat.{ℕ, _≤_}
+use native.Mathlib.Omega.{arith}
+use denote.Ref.{now}
+use lib.ListN.{length}
+use mathlib.Core.List.{[], _∷_}
+use Rattle.answer.specs.Answer.{Outcome, accepted, onAccepted}
+use Rattle.answer.specs.Packed.{packed, byte}
+use Rattle.x10.specs.Answers.{fields}
+use Rattle.x10.specs.Codes.{indexOf, functionOf}
+use Rattle.x10.specs.Pattern.{Message, function}
+use Rattle.x10.specs.Parts.{lookupOf}
+use Rattle.x10.proofs.Laws.Codes.{found-code}
+use Rattle.x10.proofs.Laws.Pattern.{function-extended, function-known, ends}
+use borrow.Author.Needs.{needs}
+use Rattle.x10.proofs.packed.pack_function.Statement.{statement}
+use Rattle.x10.proofs.packed.pack_function.Tie as tie
+
+pack-rest-requires : tie.Need-pack-rest-requires
+pack-rest-requires c κs =
+    let start = c .before .before in
+    let a = start .args in
+    (start .pre .0, start .pre .1 ∙ function-extended (now (a .places)) (a .house) (a .key) (c .if1 .taken))
+
+returns : tie.Need-returns
+returns c = search needs
+
+function-of-requires : tie.Need-function-of-requires
+function-of-requires c κs = search needs
+
+enum-told : tie.Need-enum-told
+enum-told c = search needs
+
+enum-told-2 : tie.Need-enum-told-2
+enum-told-2 c = search needs
+
+read-anew-requires : tie.Need-read-anew-requires
+read-anew-requires c κs = search needs
+
+returns-2 : tie.Need-returns-2
+returns-2 c = search needs
+
+read-anew-requires-2 : tie.Need-read-anew-requires-2
+read-anew-requires-2 c κs = search needs
+
+returns-3 : tie.Need-returns-3
+returns-3 c = search needs
+
+index-of-requires : tie.Need-index-of-requires
+index-of-requires c κs = search needs
+
+pack-5-bytes-requires : tie.Need-pack-5-bytes-requires
+pack-5-bytes-requires c κs = search needs
+
+returns-4 : tie.Need-returns-4
+returns-4 c =
+    let told = c .before .before .before in
+    let left = told .before .before .before in
+    let start = left .before .before in
+    let a = start .args in
+    let ps = now (a .places) in
+    let f = told .enum-told .given .0 .0 in
+    let e : functionOf (a .key) ≡ accepted f = sym (told .before .before .function-of .ensures) ∙ ap lookupOf (told .enum-told .given .1) in
+    let l : length ps ≤ 22 = omega (arith, c .before .before .if2 .left) in
+    c .pack-5-bytes .ensures
+    ∙ ap₂ (λ (i k : ℕ). packed (accepted (byte 1 ∷ byte i ∷ byte k ∷ byte 0 ∷ byte 0 ∷ []))) (c .before .index-of .ensures) (sym (found-code (a .key) f e))
+    ∙ sym
+    (ap (λ (o : Outcome Message). packed (onAccepted fields o))
+    (start .pre .1 ∙ function-known ps (a .house) (a .key) f (left .if1 .left) e ∙ ends ps (function (indexOf (a .house)) f) 22 l))
+
+pub pack-function-spec : {M : Type 1} → statement M
+pack-function-spec =
+    tie.close
+    (tie.spec
+    pack-rest-requires
+    returns
+    function-of-requires
+    enum-told
+    enum-told-2
+    read-anew-requires
+    returns-2
+    read-anew-requires-2
+    returns-3
+    index-of-requires
+    pack-5-bytes-requires
+    returns-4)

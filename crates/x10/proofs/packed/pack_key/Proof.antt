@@ -1,0 +1,169 @@
+-- `pack_key` meets its contract: what the pairs spell is packed, all else is read anew. Assumes nothing.
+use mathlib.Core.Path.{_≡_, sym, ap, ap₂, _∙_}
+use mathlib.Core.List.{List, [], _∷_}
+use Prim.Native.Nat.{ℕ, _+_, _≤_, _<_}
+use native.Mathlib.Omega.{arith}
+use denote.Ref.{now}
+use lib.ListN.{length}
+use lib.Seq.{slice}
+use Rattle.answer.specs.Answer.{Outcome, accepted, onAccepted}
+use Rattle.answer.specs.Packed.{packed}
+use Rattle.x10.specs.Answers.{fields}
+use Rattle.x10.specs.Codes.{indexOf}
+use Rattle.x10.specs.Places.{spelled}
+use Rattle.x10.specs.Pattern.{Message, unit, read, readKey}
+use Rattle.x10.specs.Parts.{spellingOf}
+use Rattle.x10.proofs.Laws.Codes.{index-small}
+use Rattle.x10.proofs.Laws.Pattern.{ends, key-unit, key-function}
+use Rattle.x10.proofs.Laws.Read.{nibble, begun}
+use borrow.Author.Needs.{needs}
+use Rattle.x10.proofs.packed.pack_key.Statement.{statement}
+use Rattle.x10.proofs.packed.pack_key.Tie as tie
+
+-- what each part spells
+abbrev places : tie.After-known-told → List ℕ
+places w = now (w .before .before .before .before .before .args .places)
+
+house-read : (w : tie.After-known-told) → spelled (slice 4 12 (places w)) ≡ accepted (w .before .house-bits .given .0 .0)
+house-read w = sym (w .before .before .before .spelled .ensures) ∙ ap spellingOf (w .before .house-bits .given .1)
+
+abbrev first : tie.After-known-told2 → tie.After-known-told
+first w = w .before .before .before .before
+
+key-read : (w : tie.After-known-told2) → spelled (slice 12 20 (places (first w))) ≡ accepted (w .before .key-bits .given .0 .0)
+key-read w = sym (w .before .before .before .spelled2 .ensures) ∙ ap spellingOf (w .before .key-bits .given .1)
+
+abbrev second : tie.After-known-told3 → tie.After-known-told2
+second w = w .before .before .before .before
+
+d16-read : (w : tie.After-known-told3) → spelled (slice 20 22 (places (first (second w)))) ≡ accepted (w .before .d16-bits .given .0 .0)
+d16-read w = sym (w .before .before .before .spelled3 .ensures) ∙ ap spellingOf (w .before .d16-bits .given .1)
+
+house-small : (w : tie.After-known-told) → w .before .house-bits .given .0 .0 < 16
+house-small w = nibble (places w) 4 _ (omega (arith, w .before .before .before .before .before .pre .0)) (house-read w)
+
+key-small : (w : tie.After-known-told2) → w .before .key-bits .given .0 .0 < 16
+key-small w = nibble (places (first w)) 12 _ (omega (arith, first w .before .before .before .before .before .pre .0)) (key-read w)
+
+-- so the pattern is begun
+goes-on : (w : tie.After-known-told3) → read (places (first (second w))) ≡ readKey (places (first (second w)))
+goes-on w =
+    let start = first (second w) .before .before .before .before .before in
+    begun (places (first (second w))) (start .pre .0) (start .pre .1) _ (house-read (first (second w))) _ (key-read (second w)) _ (d16-read w)
+
+spelled-requires : tie.Need-spelled-requires
+spelled-requires c κs = search needs
+
+enum-known-house-bits : tie.Need-enum-known-house-bits
+enum-known-house-bits c = search needs
+
+enum-told : tie.Need-enum-told
+enum-told c = search needs
+
+read-anew-requires : tie.Need-read-anew-requires
+read-anew-requires c κs = search needs
+
+returns : tie.Need-returns
+returns c = search needs
+
+spelled-requires-2 : tie.Need-spelled-requires-2
+spelled-requires-2 c κs = search needs
+
+enum-known-key-bits : tie.Need-enum-known-key-bits
+enum-known-key-bits c = search needs
+
+enum-told-2 : tie.Need-enum-told-2
+enum-told-2 c = search needs
+
+read-anew-requires-2 : tie.Need-read-anew-requires-2
+read-anew-requires-2 c κs = search needs
+
+returns-2 : tie.Need-returns-2
+returns-2 c = search needs
+
+spelled-requires-3 : tie.Need-spelled-requires-3
+spelled-requires-3 c κs = search needs
+
+enum-known-d16-bits : tie.Need-enum-known-d16-bits
+enum-known-d16-bits c = search needs
+
+enum-told-3 : tie.Need-enum-told-3
+enum-told-3 c = search needs
+
+read-anew-requires-3 : tie.Need-read-anew-requires-3
+read-anew-requires-3 c κs = search needs
+
+returns-3 : tie.Need-returns-3
+returns-3 c = search needs
+
+read-anew-requires-4 : tie.Need-read-anew-requires-4
+read-anew-requires-4 c κs = search needs
+
+returns-4 : tie.Need-returns-4
+returns-4 c = search needs
+
+index-of-requires : tie.Need-index-of-requires
+index-of-requires c κs = house-small (first (second (c .before .before)))
+
+index-of-requires-2 : tie.Need-index-of-requires-2
+index-of-requires-2 c κs = key-small (second (c .before .before .before))
+
+add-pack-5-bytes : tie.Need-add-pack-5-bytes
+add-pack-5-bytes c = omega (arith, index-small _ (key-small (second (c .before .before .before .before))), c .index-of2 .ensures)
+
+pack-5-bytes-requires : tie.Need-pack-5-bytes-requires
+pack-5-bytes-requires c κs = search needs
+
+returns-5 : tie.Need-returns-5
+returns-5 c =
+    let w = c .before .before .before .before .before in
+    let ps = places (first (second w)) in
+    let l : length ps ≤ 22 = omega (arith, c .before .before .before .if2 .left) in
+    c .pack-5-bytes .ensures
+    ∙ ap₂ (λ (i j : ℕ). packed (onAccepted fields (accepted (unit i (j + 1))))) (c .before .before .index-of .ensures) (c .before .index-of2 .ensures)
+    ∙ sym
+    (ap (λ (o : Outcome Message). packed (onAccepted fields o))
+    (goes-on w
+    ∙ key-unit ps _ (house-read (first (second w))) _ (key-read (second w)) _ (d16-read w) (c .before .before .before .before .if1 .taken)
+    ∙ ends ps (unit (indexOf _) (indexOf _ + 1)) 22 l))
+
+pack-function-requires : tie.Need-pack-function-requires
+pack-function-requires c κs =
+    let w = c .before in
+    let ps = places (first (second w)) in (
+      house-small (first (second w)),
+      goes-on w
+          ∙ key-function ps _ (house-read (first (second w))) _ (key-read (second w)) _ (d16-read w) (c .if1 .left),
+    )
+
+returns-6 : tie.Need-returns-6
+returns-6 c = search needs
+
+pub pack-key-spec : {M : Type 1} → statement M
+pack-key-spec =
+    tie.close
+    (tie.spec
+    spelled-requires
+    enum-known-house-bits
+    enum-told
+    read-anew-requires
+    returns
+    spelled-requires-2
+    enum-known-key-bits
+    enum-told-2
+    read-anew-requires-2
+    returns-2
+    spelled-requires-3
+    enum-known-d16-bits
+    enum-told-3
+    read-anew-requires-3
+    returns-3
+    read-anew-requires-4
+    returns-4
+    index-of-requires
+    index-of-requires-2
+    add-pack-5-bytes
+    pack-5-bytes-requires
+    returns-5
+    pack-function-requires
+    returns-6)
