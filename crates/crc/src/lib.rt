@@ -12,7 +12,7 @@ fn step(r: u16, b: u8) -> u16
     ensures { λ n. ⌜ n ≡ feed r (bitsOf 8 b) ⌝ }
 {
     let low = (r ^ b as u16) % 256;
-    r / 256 ^ entry(low as u8)
+    r / 256 ^ entry(low + 256)
 }
 
 // The CRC of a byte string.

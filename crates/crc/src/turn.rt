@@ -1,7 +1,9 @@
 // The register's turns, one at a time.
 ghost use mathlib.Core.Path.{_≡_};
+ghost use Prim.Native.Nat.{_<_, _≤_};
+ghost use mathlib.Core.List.{_++_};
 ghost use Rattle.crc.specs.Crc.{shift};
-ghost use lib.ListN.{getD};
+ghost use lib.ListN.{getD, replicate};
 ghost use Rattle.crc.specs.Table.{table};
 
 fn turn(r: u16) -> u16
@@ -10,8 +12,10 @@ fn turn(r: u16) -> u16
     r / 2 ^ r % 2 * 0xA001
 }
 
-pub(crate) fn eight_turns(n: u8) -> u16
-    ensures { λ r. ⌜ r ≡ getD table n 0 ⌝ }
+// Entry n - 256 of the table, worked out.
+pub(crate) fn eight_turns(n: u16) -> u16
+    requires { ⌜ (256 ≤ n) × (n < 512) ⌝ }
+    ensures { λ r. ⌜ r ≡ getD (replicate 256 0 ++ table) n 0 ⌝ }
 {
-    turn(turn(turn(turn(turn(turn(turn(turn(n as u16))))))))
+    turn(turn(turn(turn(turn(turn(turn(turn(n - 256))))))))
 }

@@ -121,7 +121,7 @@ pub extern "C" fn omnilink_message_write(kind: u8, data: &[u8], out: &mut [u8]) 
     ensures { λ n. ⌜ n ≡ packed (onAccepted (λ b. word (length b) ∷ []) (inRoom (length (now (out .entry))) (writeMessage kind (now («data» .entry))))) ⌝ }
     ensures { λ _. ⌜ now (out .exit) ≡ outAfter (inRoom (length (now (out .entry))) (writeMessage kind (now («data» .entry)))) (now (out .entry)) ⌝ }
 {
-    answer::pack_written(message::message::write(kind, data, out))
+    message::message::write_packed(kind, data, out)
 }
 
 // Condition (8), latched alarm (8), arming (8), unacknowledged trouble (8), loop reading (8) of zone i.

@@ -13,3 +13,4 @@ pub mod Kinds
 pub mod Lists
 pub mod Packed
 pub mod RoundTrip
+pub mod Written

@@ -175,6 +175,8 @@ pub(crate) fn is_plain(kind: u8) -> bool
 pub(crate) fn fault(kind: u8, data: &[u8]) -> u8
     ensures { λ r. ⌜ r ≡ faultOf (messageOf kind (now («data» .entry))) ⌝ }
 {
+    // Lent anew, the slice is passed in registers.
+    let data = &data[..];
     if is_plain(kind) {
         return plain(data);
     }

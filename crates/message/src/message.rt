@@ -10,11 +10,12 @@ use answer::Written;
 use link::frame::FrameRead;
 ghost use mathlib.Core.Path.{_≡_};
 ghost use mathlib.Core.Bool.{not};
+ghost use mathlib.Core.List.{[], _∷_};
 ghost use Prim.Native.Nat.{_%_, _≤_};
 ghost use lib.Dec.{eqb};
 ghost use lib.ListN.{length, getD};
 ghost use Rattle.answer.specs.Answer.{accepted, refuseIf, onAccepted, inRoom, outAfter, writtenOf};
-ghost use Rattle.answer.specs.Packed.{packed};
+ghost use Rattle.answer.specs.Packed.{packed, word};
 ghost use Rattle.message.specs.Command.{readCommand};
 ghost use Rattle.message.specs.Lists.{zonesListed};
 ghost use Rattle.message.specs.Log.{readLog};
@@ -358,4 +359,27 @@ pub fn write(kind: u8, data: &[u8], out: &mut [u8]) -> Written
         return write_unless(check::plain(data), kind, data, out);
     }
     write_unless(check::fault(kind, data), kind, data, out)
+}
+
+// Writes the frame of a type and data bytes that have this fault, or none: packed for C.
+fn pack_unless(fault: u8, kind: u8, data: &[u8], out: &mut [u8]) -> u64
+    requires { ⌜ fault ≡ faultOf (messageOf kind (now «data»)) ⌝ }
+    ensures { λ n. ⌜ n ≡ packed (onAccepted (λ count. word count ∷ []) (onAccepted length (inRoom (length (now (out .entry))) (writeMessage kind (now («data» .entry)))))) ⌝ }
+    ensures { λ _. ⌜ now (out .exit) ≡ outAfter (inRoom (length (now (out .entry))) (writeMessage kind (now («data» .entry)))) (now (out .entry)) ⌝ }
+{
+    if fault != check::NONE {
+        return fault as u64;
+    }
+    answer::pack_written(link::frame::write(kind, data, out))
+}
+
+// Writes the message of a type and data bytes and makes no refusal of a fault: packed for C, the count of bytes written.
+pub fn write_packed(kind: u8, data: &[u8], out: &mut [u8]) -> u64
+    ensures { λ n. ⌜ n ≡ packed (onAccepted (λ count. word count ∷ []) (onAccepted length (inRoom (length (now (out .entry))) (writeMessage kind (now («data» .entry)))))) ⌝ }
+    ensures { λ _. ⌜ now (out .exit) ≡ outAfter (inRoom (length (now (out .entry))) (writeMessage kind (now («data» .entry)))) (now (out .entry)) ⌝ }
+{
+    if check::is_plain(kind) {
+        return pack_unless(check::plain(data), kind, data, out);
+    }
+    pack_unless(check::fault(kind, data), kind, data, out)
 }

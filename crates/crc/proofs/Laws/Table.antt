@@ -1,14 +1,14 @@
 -- The table's rule, and a byte fed by it. Assumes nothing.
 use mathlib.Core.Path.{_≡_, refl, sym, ap, ap₂, _∙_}
-use mathlib.Core.List.{List, [], _∷_}
-use Prim.Native.Nat.{ℕ, zero, suc, _+_, _*_, _/_, _%_, _^_, _<_}
-use native.Mathlib.Nat.{mod-lt, mul-assoc, mul-one, pow-suc, suc-add, add-suc, add-zero}
+use mathlib.Core.List.{List, [], _∷_, _++_}
+use Prim.Native.Nat.{ℕ, zero, suc, _+_, _*_, _-_, _/_, _%_, _^_, _≤_, _<_}
+use native.Mathlib.Nat.{zero-add, mod-lt, mul-assoc, mul-one, pow-suc, suc-add, add-suc, add-zero}
 use native.Mathlib.Numerals.{add-one}
 use native.Mathlib.Omega.{arith}
 use lib.Bits.{bitXor, xor-shr, xor-shifted, xor-zero-r}
-use lib.ListN.{length, getD, take}
+use lib.ListN.{length, getD, take, replicate}
 use lib.Pow.{pow-pos, split}
-use lib.Seq.{take-suc}
+use lib.Seq.{take-suc, getD-append-add}
 use Rattle.crc.specs.Bits.{bitsOf, bitString}
 use Rattle.crc.specs.Crc.{shift, feed, crc}
 use Rattle.crc.specs.Table.{turns, entries, table}
@@ -20,11 +20,14 @@ entry-of zero n i h = let z : ⊥ = omega arith in absurd z
 entry-of (suc k) n zero h = ap (turns 8) (sym (add-zero n))
 entry-of (suc k) n (suc i) h = entry-of k (suc n) i (omega arith) ∙ ap (turns 8) (suc-add n i ∙ sym (add-suc n i))
 
--- entry i of the table is i after eight turns
-pub entry : (i : ℕ) → i < 256 → getD table i 0 ≡ turns 8 i
-entry i h =
-    let e : 0 + i ≡ i = omega arith in
-    entry-of 256 0 i h ∙ ap (turns 8) e
+-- entry n of the table with 256 zeros before it is n - 256 after eight turns
+pub entry : (n : ℕ) → (256 ≤ n) × (n < 512) → getD (replicate 256 0 ++ table) n 0 ≡ turns 8 (n - 256)
+entry n h =
+    let e : n ≡ 256 + (n - 256) = omega arith in
+    ap (λ (m : ℕ). getD (replicate 256 0 ++ table) m 0) e
+    ∙ getD-append-add (replicate 256 0) table (n - 256) 0
+    ∙ entry-of 256 0 (n - 256) (omega arith)
+    ∙ ap (turns 8) (zero-add (n - 256))
 
 turns-shifted : (n q : ℕ) → turns n (q * 2 ^ n) ≡ q
 turns-shifted zero q = mul-one q
@@ -41,10 +44,11 @@ by-parts x =
     ∙ turns-xor 8 (x / 256 * 256) (x % 256)
     ∙ ap (λ (h : ℕ). bitXor h (turns 8 (x % 256))) (turns-shifted 8 (x / 256))
 
-pub byte-by-table : (r b : ℕ) → b < 256 → bitXor (r / 256) (getD table (bitXor r b % 256) 0) ≡ feed r (bitsOf 8 b)
+pub byte-by-table : (r b : ℕ) → b < 256 → bitXor (r / 256) (getD (replicate 256 0 ++ table) (bitXor r b % 256 + 256) 0) ≡ feed r (bitsOf 8 b)
 byte-by-table r b h =
     let none : b / 256 ≡ 0 = omega arith in
-    ap (bitXor (r / 256)) (entry (bitXor r b % 256) (mod-lt (bitXor r b) (pow-pos 8)))
+    let low : bitXor r b % 256 + 256 - 256 ≡ bitXor r b % 256 = omega arith in
+    ap (bitXor (r / 256)) (entry (bitXor r b % 256 + 256) (omega arith, omega arith) ∙ ap (turns 8) low)
     ∙ ap (λ (q : ℕ). bitXor q (turns 8 (bitXor r b % 256)))
     (sym (xor-zero-r (r / 256)) ∙ ap (bitXor (r / 256)) (sym none) ∙ sym (xor-shr r b 8))
     ∙ sym (by-parts (bitXor r b))

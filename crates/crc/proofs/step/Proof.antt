@@ -6,8 +6,8 @@ use Rattle.crc.proofs.Laws.Table.{byte-by-table}
 use Rattle.crc.proofs.step.Statement.{statement}
 use Rattle.crc.proofs.step.Tie as tie
 
-cast-entry : tie.Need-cast-entry
-cast-entry c = search needs
+add-entry : tie.Need-add-entry
+add-entry c = search needs
 
 entry-requires : tie.Need-entry-requires
 entry-requires c κs = search needs
@@ -18,4 +18,4 @@ returns c =
     ap (bitXor (a .r / 256)) (c .entry .ensures) ∙ byte-by-table (a .r) (a .b) (c .before .fits .b .fits)
 
 pub step-spec : {M : Type 1} → statement M
-step-spec = tie.close (tie.spec cast-entry entry-requires returns)
+step-spec = tie.close (tie.spec add-entry entry-requires returns)

@@ -5,6 +5,9 @@ use Rattle.crc.proofs.turn.eight_turns.Statement.{statement}
 use Rattle.crc.proofs.turn.eight_turns.Tie as tie
 use Rattle.crc.specs.Crc.{shift}
 
+sub-turn : tie.Need-sub-turn
+sub-turn c = search needs
+
 turn-requires : tie.Need-turn-requires
 turn-requires c κs = search needs
 
@@ -31,14 +34,15 @@ turn-requires-8 c κs = search needs
 
 returns : tie.Need-returns
 returns c =
-    let n = c .before .before .before .before .before .before .before .before .args .n in
+    let at = c .before .before .before .before .before .before .before .before in
     c .turn8 .ensures ∙ ap shift (c .before .turn7 .ensures ∙ ap shift (c .before .before .turn6 .ensures ∙ ap shift (c .before .before .before .turn5 .ensures ∙ ap shift (c .before .before .before .before .turn4 .ensures ∙ ap shift (c .before .before .before .before .before .turn3 .ensures ∙ ap shift (c .before .before .before .before .before .before .turn2 .ensures ∙ ap shift (c .before .before .before .before .before .before .before .turn .ensures)))))))
-    ∙ sym (entry n (c .before .before .before .before .before .before .before .before .fits .n .fits))
+    ∙ sym (entry (at .args .n) (at .pre))
 
 pub eight-turns-spec : {M : Type 1} → statement M
 eight-turns-spec =
     tie.close
     (tie.spec
+    sub-turn
     turn-requires
     turn-requires-2
     turn-requires-3
