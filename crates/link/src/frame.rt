@@ -160,6 +160,11 @@ pub fn write(kind: u8, data: &[u8], out: &mut [u8]) -> Written
     if out.len() < count + 5 {
         return Written::Refused(Refusal::Room);
     }
+    // The commonest frames have no data; the compiler makes less of them where it knows that.
+    if count == 0 {
+        put_frame(kind, data, out);
+        return Written::Count(5);
+    }
     put_frame(kind, data, out);
     Written::Count(count as u32 + 5)
 }
