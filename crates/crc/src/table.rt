@@ -1,6 +1,6 @@
-// The usual table of CRC-16: entry n is n after eight turns of the register. As arms of a `match` the words stand in read-only memory, and
-// no call copies them. The arms are numbered from 256 because the compiler looks up a byte as a signed number and adds 128 each time, but
-// a number from 256 to 511 as it stands.
+// The usual table of CRC-16: the entry of a byte is the byte after eight turns of the register. As arms of a `match` the words stand in
+// read-only memory, and no call copies them. The arms are numbered from 256 because the compiler looks up a byte as a signed number and
+// adds 128 each time, but a number from 256 to 511 as it stands.
 ghost use mathlib.Core.Path.{_≡_};
 ghost use Prim.Native.Nat.{_<_, _≤_};
 ghost use mathlib.Core.List.{_++_};
@@ -8,7 +8,7 @@ ghost use lib.ListN.{getD, replicate};
 ghost use Rattle.crc.specs.Table.{table};
 use crate::turn::eight_turns;
 
-// Entry n - 256. The contract puts 256 zeros before the table, so that the number of an arm is its place.
+// The entry of the byte n - 256. The contract puts 256 zeros before the table, so that the number of an arm is its place.
 pub(crate) fn entry(n: u16) -> u16
     requires { ⌜ (256 ≤ n) × (n < 512) ⌝ }
     ensures { λ r. ⌜ r ≡ getD (replicate 256 0 ++ table) n 0 ⌝ }

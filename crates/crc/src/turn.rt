@@ -12,7 +12,7 @@ fn turn(r: u16) -> u16
     r / 2 ^ r % 2 * 0xA001
 }
 
-// Entry n - 256 of the table, worked out.
+// The entry of the byte n - 256, worked out.
 pub(crate) fn eight_turns(n: u16) -> u16
     requires { ⌜ (256 ≤ n) × (n < 512) ⌝ }
     ensures { λ r. ⌜ r ≡ getD (replicate 256 0 ++ table) n 0 ⌝ }

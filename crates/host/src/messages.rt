@@ -112,7 +112,7 @@ fn pack_text(r: TextRead) -> u64
 pub extern "C" fn omnilink_message_read(bytes: &[u8]) -> u64
     ensures { λ n. ⌜ n ≡ packed (onAccepted (λ m. messageFields (counted m)) (readMessage (now (bytes .entry)))) ⌝ }
 {
-    message::message::read_packed(bytes)
+    message::packed::read_packed(bytes)
 }
 
 // Bytes written (16).
@@ -121,7 +121,7 @@ pub extern "C" fn omnilink_message_write(kind: u8, data: &[u8], out: &mut [u8]) 
     ensures { λ n. ⌜ n ≡ packed (onAccepted (λ b. word (length b) ∷ []) (inRoom (length (now (out .entry))) (writeMessage kind (now («data» .entry))))) ⌝ }
     ensures { λ _. ⌜ now (out .exit) ≡ outAfter (inRoom (length (now (out .entry))) (writeMessage kind (now («data» .entry)))) (now (out .entry)) ⌝ }
 {
-    message::message::write_packed(kind, data, out)
+    message::packed::write_packed(kind, data, out)
 }
 
 // Condition (8), latched alarm (8), arming (8), unacknowledged trouble (8), loop reading (8) of zone i.

@@ -160,7 +160,7 @@ pub fn write(kind: u8, data: &[u8], out: &mut [u8]) -> Written
     if out.len() < count + 5 {
         return Written::Refused(Refusal::Room);
     }
-    // The commonest frames have no data; the compiler makes less of them where it knows that.
+    // The same call in a branch of its own: where it knows that there is no data, the compiler leaves the copying out.
     if count == 0 {
         put_frame(kind, data, out);
         return Written::Count(5);

@@ -5,4 +5,5 @@ pub mod item;
 pub mod lists;
 pub mod log;
 pub mod message;
+pub mod packed;
 pub mod typed;

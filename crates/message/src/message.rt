@@ -10,18 +10,15 @@ use answer::Written;
 use link::frame::FrameRead;
 ghost use mathlib.Core.Path.{_≡_};
 ghost use mathlib.Core.Bool.{not};
-ghost use mathlib.Core.List.{[], _∷_};
 ghost use Prim.Native.Nat.{_%_, _≤_};
 ghost use lib.Dec.{eqb};
 ghost use lib.ListN.{length, getD};
 ghost use Rattle.answer.specs.Answer.{accepted, refuseIf, onAccepted, inRoom, outAfter, writtenOf};
-ghost use Rattle.answer.specs.Packed.{packed, word};
 ghost use Rattle.message.specs.Command.{readCommand};
 ghost use Rattle.message.specs.Lists.{zonesListed};
 ghost use Rattle.message.specs.Log.{readLog};
 ghost use Rattle.message.specs.Message.{digitsListed, orderListed, statusLength, readPlain, readLogin, readZoneRequest, readZoneStatus, readEvents, readMessageStatus, withData, messageOf, readMessage, writeMessage, counted, messageRead};
-ghost use Rattle.message.specs.Fields.{messageFields};
-ghost use Rattle.message.specs.Parts.{faultOf, packedUnless};
+ghost use Rattle.message.specs.Parts.{faultOf};
 
 // The messages of fixed length: those without data (05, 06, 0D, 11, 13, 21, 22), 20, 15, 0E and 0F.
 pub enum Fixed {
@@ -305,39 +302,6 @@ pub fn read(bytes: &[u8]) -> MessageRead
     }
 }
 
-// The packed answer for a type and a count of items, where there is no fault; else the fault.
-fn packed_unless(fault: u8, kind: u8, items: u8) -> u64
-    ensures { λ r. ⌜ r ≡ packedUnless fault kind items ⌝ }
-{
-    if fault != check::NONE {
-        return fault as u64;
-    }
-    answer::pack_2_bytes(kind, items)
-}
-
-// The packed answer for a type and its data bytes, so many. A type without data is answered with no call.
-fn packed_data(kind: u8, count: u8, data: &[u8]) -> u64
-    requires { ⌜ length (now «data») ≡ count ⌝ }
-    ensures { λ r. ⌜ r ≡ packed (onAccepted (λ m. messageFields (counted m)) (messageOf kind (now («data» .entry)))) ⌝ }
-{
-    if check::is_plain(kind) {
-        return packed_unless(check::plain(data), kind, 0);
-    }
-    packed_unless(check::fault(kind, data), kind, check::items_in(kind, count))
-}
-
-// Reads a byte string as a whole message and makes none of it: packed for C, its type and the count of its items.
-pub fn read_packed(bytes: &[u8]) -> u64
-    ensures { λ r. ⌜ r ≡ packed (onAccepted (λ m. messageFields (counted m)) (readMessage (now (bytes .entry)))) ⌝ }
-{
-    match link::frame::read(bytes) {
-        FrameRead::Accepted { kind, count } => {
-            packed_data(kind, count, link::frame::data(bytes, count))
-        }
-        FrameRead::Refused(r) => answer::pack_refusal(r),
-    }
-}
-
 // Writes the frame of a type and data bytes that have this fault, or none.
 fn write_unless(fault: u8, kind: u8, data: &[u8], out: &mut [u8]) -> Written
     requires { ⌜ fault ≡ faultOf (messageOf kind (now «data»)) ⌝ }
@@ -359,27 +323,4 @@ pub fn write(kind: u8, data: &[u8], out: &mut [u8]) -> Written
         return write_unless(check::plain(data), kind, data, out);
     }
     write_unless(check::fault(kind, data), kind, data, out)
-}
-
-// Writes the frame of a type and data bytes that have this fault, or none: packed for C.
-fn pack_unless(fault: u8, kind: u8, data: &[u8], out: &mut [u8]) -> u64
-    requires { ⌜ fault ≡ faultOf (messageOf kind (now «data»)) ⌝ }
-    ensures { λ n. ⌜ n ≡ packed (onAccepted (λ count. word count ∷ []) (onAccepted length (inRoom (length (now (out .entry))) (writeMessage kind (now («data» .entry)))))) ⌝ }
-    ensures { λ _. ⌜ now (out .exit) ≡ outAfter (inRoom (length (now (out .entry))) (writeMessage kind (now («data» .entry)))) (now (out .entry)) ⌝ }
-{
-    if fault != check::NONE {
-        return fault as u64;
-    }
-    answer::pack_written(link::frame::write(kind, data, out))
-}
-
-// Writes the message of a type and data bytes and makes no refusal of a fault: packed for C, the count of bytes written.
-pub fn write_packed(kind: u8, data: &[u8], out: &mut [u8]) -> u64
-    ensures { λ n. ⌜ n ≡ packed (onAccepted (λ count. word count ∷ []) (onAccepted length (inRoom (length (now (out .entry))) (writeMessage kind (now («data» .entry)))))) ⌝ }
-    ensures { λ _. ⌜ now (out .exit) ≡ outAfter (inRoom (length (now (out .entry))) (writeMessage kind (now («data» .entry)))) (now (out .entry)) ⌝ }
-{
-    if check::is_plain(kind) {
-        return pack_unless(check::plain(data), kind, data, out);
-    }
-    pack_unless(check::fault(kind, data), kind, data, out)
 }

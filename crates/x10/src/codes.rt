@@ -25,7 +25,7 @@ const CODES: [u8; 16] = [
     0b1100,
 ];
 
-// The place of each code in the list above, a digit for each, that of code 0 last.
+// The place of each code in the list above, a hexadecimal digit for each, that of code 0 last.
 const INDEX: u64 = 0x917F_B35D_806E_A24C;
 
 // The key of Extended 1.

@@ -1,7 +1,7 @@
 // X-10 patterns (document 01, "X-10 patterns"): a number, 0 or 1, for each half cycle, in a byte of its own.
 mod codes; // codes.rt: the code list of houses and units, and the table of functions
-mod pairs; // pairs.rt: bits and their complements, read from places and put into them
 mod packed; // packed.rt: the reader for C, whose answer is one number
+mod pairs; // pairs.rt: bits and their complements, read from places and put into them
 mod parts; // parts.rt: the parts of a pattern, after the first checks
 
 use answer::Refusal;

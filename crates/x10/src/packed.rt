@@ -1,5 +1,5 @@
-// The reader for C, whose answer is one number. A pattern that is as it should be is packed as it is read; whatever else is lent is read anew by
-// `read`, which finds the refusal. Pairs that each make 1 and a start code are places, so that no place is looked at twice.
+// The reader for C, whose answer is one number. A pattern is packed as it is read; whatever is none is read anew by `read`, which finds
+// the refusal. A start code, and pairs that each make 1, are 0 or 1 by themselves, so a pattern needs no check for 8.
 use crate::Pattern;
 use crate::codes::EXTENDED_1;
 use crate::codes::Lookup;
@@ -50,7 +50,7 @@ fn pack(p: Pattern) -> u64
     }
 }
 
-// Whatever is not packed at once, by `read`. The `[..]` lets the compiler pass the slice in registers.
+// Whatever was not packed, by `read`, which refuses it. Lent anew, the slice is passed in registers.
 pub(crate) fn read_anew(places: &[u8]) -> u64
     ensures { λ n. ⌜ n ≡ packed (onAccepted fields (read (now (places .entry)))) ⌝ }
 {

@@ -11,14 +11,13 @@ use crate::pairs::spelled;
 use answer::Refusal;
 use answer::Written;
 ghost use mathlib.Core.Path.{_≡_};
-ghost use mathlib.Core.Bool.{true, not};
 ghost use Prim.Native.Nat.{_+_, _<_, _≤_};
 ghost use mathlib.Core.List.{_++_};
 ghost use lib.ListN.{length};
-ghost use lib.Seq.{slice, sets};
-ghost use Rattle.answer.specs.Answer.{refused, accepted, refuseIf, numberOf, writtenOf, onAccepted, inRoom, outAfter};
+ghost use lib.Seq.{sets};
+ghost use Rattle.answer.specs.Answer.{accepted, writtenOf, onAccepted, inRoom, outAfter};
 ghost use Rattle.x10.specs.Codes.{extended1};
-ghost use Rattle.x10.specs.Places.{arePlaces, startCode, startsWith};
+ghost use Rattle.x10.specs.Places.{startCode, startsWith};
 ghost use Rattle.x10.specs.Answers.{outcomeOf};
 ghost use Rattle.x10.specs.Pattern.{readKey, readFunction, readRest, standard, extension};
 
@@ -88,7 +87,7 @@ pub(crate) fn read_key(places: &[u8]) -> Pattern
 
 // A key with D16 1: Extended 1, or 6, then 4.
 fn read_function(places: &[u8], house: u8, key: u8) -> Pattern
-    requires { ⌜ (house < 16) × (22 ≤ length (now places)) ⌝ }
+    requires { ⌜ house < 16 ⌝ }
     ensures { λ r. ⌜ outcomeOf r ≡ readFunction (now (places .entry)) house key ⌝ }
 {
     if key == EXTENDED_1 {
@@ -109,7 +108,7 @@ fn read_function(places: &[u8], house: u8, key: u8) -> Pattern
 
 // The rest of an Extended 1: 1, 8, 5, then 4.
 fn read_rest(places: &[u8], house: u8) -> Pattern
-    requires { ⌜ (house < 16) × (22 ≤ length (now places)) ⌝ }
+    requires { ⌜ house < 16 ⌝ }
     ensures { λ r. ⌜ outcomeOf r ≡ readRest (now (places .entry)) house ⌝ }
 {
     if places.len() < EXTENDED {

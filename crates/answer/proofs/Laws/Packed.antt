@@ -1,13 +1,14 @@
--- A packed answer taken apart again, as a C host does: the number is its low byte, and each field stands above those before it.
--- Assumes nothing.
+-- A packed answer taken apart again, as a C host does: the number is its low byte, and each field stands above those before it. An answer
+-- packed from another's. Assumes nothing.
 use mathlib.Core.Path.{_≡_, refl, ap, _∙_}
 use mathlib.Core.List.{List, [], _∷_, _++_}
 use Prim.Native.Nat.{ℕ, zero, _+_, _*_, _/_, _%_, _^_, _<_}
 use native.Mathlib.Nat.{zero-add, add-mul-div-left, div-eq-of-lt, div-div-eq-div-mul, add-mul-mod-self-left, mod-eq-of-lt, mul-mod-right, mul-div-right}
 use native.Mathlib.Omega.{arith}
 use lib.Pow.{pow-pos, pow-add}
-use Rattle.answer.specs.Answer.{refused, accepted}
+use Rattle.answer.specs.Answer.{Outcome, refused, accepted, onAccepted}
 use Rattle.answer.specs.Packed.{Field, stacked, packed}
+use Rattle.answer.proofs.Laws.Test.{in-one}
 
 -- every value fits its field
 abbrev pub Fit : List Field → Type 0
@@ -51,3 +52,9 @@ pub value-of-accepted : (f : Field) → packed (accepted (f ∷ [])) / 2 ^ 8 ≡
 value-of-accepted f =
     let alone : f .value + 2 ^ f .bits * 0 ≡ f .value = omega arith in
     mul-div-right (stacked (f ∷ [])) (pow-pos 8) ∙ alone
+
+-- an answer packed from what a lower call answers of the same outcome
+pub of-lower : {A B : Type 0} (f : A → B) (fields : B → List Field) (o : Outcome A) (lower : Outcome B) (n : ℕ)
+    → n ≡ packed (onAccepted fields lower) → lower ≡ onAccepted f o → n ≡ packed (onAccepted (λ a. fields (f a)) o)
+of-lower {B = B} f fields o lower n e l =
+    e ∙ ap (λ (x : Outcome B). packed (onAccepted fields x)) l ∙ ap packed (in-one f fields o)

@@ -9,6 +9,7 @@ use native.Mathlib.Omega.{arith}
 use lib.Dec.{eqb, ltb}
 use lib.ListN.{length}
 use lib.Pow.{high, mod-pow-add}
+use lib.Seq.{slice, length-slice}
 use borrow.Author.Tests.{lt-ltb, ltb-true, eqb-true, eq-eqb}
 use Rattle.answer.specs.Answer.{Outcome, refused, accepted, refuseIf, onAccepted}
 use Rattle.x10.specs.Places.{arePlaces, paired, unpaired, bits, number, numberFrom, spelled}
@@ -139,7 +140,7 @@ spelled-bits w n h =
     last = omega (arith, mod-eq-of-lt h)
 
 -- pairs that spell a number are those of its bits
-pub spelled-back : (w : ℕ) (ps : List ℕ) (n : ℕ) → length ps ≡ w + w → spelled ps ≡ accepted n → (n < 2 ^ w) × (ps ≡ paired (bits w n))
+spelled-back : (w : ℕ) (ps : List ℕ) (n : ℕ) → length ps ≡ w + w → spelled ps ≡ accepted n → (n < 2 ^ w) × (ps ≡ paired (bits w n))
 unfolding spelled
 spelled-back w ps n hl e = go (unpaired ps) refl e
   where
@@ -152,3 +153,8 @@ spelled-back w ps n hl e = go (unpaired ps) refl e
           subst (λ (k : ℕ). n < 2 ^ k) hw (subst (λ (x : ℕ). x < 2 ^ length bs) q (number-below bs (r .1))),
           r .0 ∙ ap paired (sym (bits-number 0 bs (r .1))) ∙ ap₂ (λ (k x : ℕ). paired (bits k x)) hw q,
         )
+
+-- what a part of the places spells, given back
+pub part-back : (f t w : ℕ) (ps : List ℕ) (n : ℕ) → t ≤ length ps → t - f ≡ w + w → spelled (slice f t ps) ≡ accepted n
+    → (n < 2 ^ w) × (slice f t ps ≡ paired (bits w n))
+part-back f t w ps n h e s = spelled-back w (slice f t ps) n (length-slice f t ps h ∙ e) s

@@ -1,18 +1,16 @@
--- The code list is a bijection of the 16 codes: one test over the list and over the digits of its places. Assumes nothing.
+-- The code list is a bijection of the 16 codes, by a test over the list, and digits say where each code stands, by another. Assumes nothing.
 use mathlib.Core.Path.{_≡_, refl, sym, ap, _∙_}
 use mathlib.Core.Bool.{Bool, true, false, not, cond, _&&_}
 use mathlib.Core.List.{List, [], _∷_}
 use Prim.Native.Nat.{ℕ, _<_, _*_, _/_, _%_, _^_}
 use lib.Dec.{T, eqb, ltb, eqb→eq, ltb→lt}
-use lib.ListN.{getD}
-use native.Mathlib.Omega.{arith}
 use borrow.Author.Tests.{ne-eqb, eqb-true, eqb-false, not-true}
 use Rattle.answer.specs.Answer.{refused, accepted}
 use Rattle.x10.specs.declared.Function.{Function}
 use Rattle.x10.specs.declared.Function.the-variants.{AllUnitsOff, AllLightsOn, On, Off, Dim, Bright, AllLightsOff, HailRequest, HailAcknowledge, StatusOn, StatusOff, StatusRequest}
 use Rattle.x10.specs.Codes.{codes, codeAt, indexOf, functionCode, functions, functionIn, functionOf, extended1}
 use Rattle.answer.proofs.Laws.Test.{not-accepted, same}
-use Rattle.answer.proofs.Laws.Table.{both-left, both-right, holds as is-true, at}
+use Rattle.answer.proofs.Laws.Table.{both-left, both-right, holds as is-true, at, below}
 
 -- the rule of the list, at place i with the code x: the code is one of 16 and its place is i; and the code i has a place, where it stands
 rule : ℕ → ℕ → Bool
@@ -22,8 +20,8 @@ rule i x = ltb x 16 && (eqb (indexOf x) i && (ltb (indexOf i) 16 && eqb (codeAt 
 abbrev pub digits : ℕ
 digits = 0x917FB35D806EA24C
 
-right : ℕ → ℕ → Bool
-right i x = eqb (digits / 2 ^ (i * 4) % 16) (indexOf i)
+right : ℕ → Bool
+right i = eqb (digits / 2 ^ (i * 4) % 16) (indexOf i)
 
 module _ (i : ℕ) (h : i < 16) where
   holds : T (rule i (codeAt i))
@@ -55,7 +53,7 @@ module _ (i : ℕ) (h : i < 16) where
 
   pub place-of : digits / 2 ^ (i * 4) % 16 ≡ indexOf i
   unfolding right indexOf
-  place-of = eqb→eq (digits / 2 ^ (i * 4) % 16) (indexOf i) (at right codes tt i h)
+  place-of = eqb→eq (digits / 2 ^ (i * 4) % 16) (indexOf i) (below right 16 tt i h)
 
 -- each function is found by its code
 pub function-found : (f : Function) → functionOf (functionCode f) ≡ accepted f

@@ -71,6 +71,9 @@ module _ (ps : List ℕ) where
         unfolding readKey
         key-unit e = simp (eh, ek, ed, eq-eqb d 0 e)
 
+        pub unit-accepted : d ≡ 0 → length ps ≤ 22 → readKey ps ≡ accepted (unit (indexOf h) (indexOf k + 1))
+        unit-accepted e l = key-unit e ∙ ends ps (unit (indexOf h) (indexOf k + 1)) 22 l
+
         pub key-function : (d ≡ 0 → ⊥) → readKey ps ≡ readFunction ps h k
         unfolding readKey
         key-function e = simp (eh, ek, ed, ne-eqb d 0 e)
@@ -88,6 +91,10 @@ module _ (ps : List ℕ) where
         → readFunction ps h k ≡ ending 22 ps (function (indexOf h) f)
     unfolding readFunction
     function-known f n e = simp (ne-eqb k extended1 n, e)
+
+    pub function-accepted : (f : Function) → (k ≡ extended1 → ⊥) → functionOf k ≡ accepted f → length ps ≤ 22
+        → readFunction ps h k ≡ accepted (function (indexOf h) f)
+    function-accepted f n e l = function-known f n e ∙ ends ps (function (indexOf h) f) 22 l
 
   module _ (h : ℕ) where
     pub rest-short : length ps < 62 → readRest ps h ≡ refused 1
@@ -116,3 +123,6 @@ module _ (ps : List ℕ) where
           pub rest-read : (c : ℕ) → spelled (slice 46 62 ps) ≡ accepted c → readRest ps h ≡ ending 62 ps (extended (indexOf h) (indexOf k + 1) d c)
           unfolding readRest
           rest-read c ec = simp (le-ltb (length ps) 62 l, v, ek, ed, ec)
+
+          pub rest-accepted : (c : ℕ) → spelled (slice 46 62 ps) ≡ accepted c → length ps ≤ 62 → readRest ps h ≡ accepted (extended (indexOf h) (indexOf k + 1) d c)
+          rest-accepted c ec t = rest-read c ec ∙ ends ps (extended (indexOf h) (indexOf k + 1) d c) 62 t

@@ -2,17 +2,17 @@
 use mathlib.Core.Path.{_≡_, sym, ap, _∙_, subst}
 use mathlib.Core.Bool.{true, _&&_}
 use mathlib.Core.List.{List, [], _∷_}
-use Prim.Native.Nat.{ℕ, zero, suc, _+_, _≤_, _<_}
+use Prim.Native.Nat.{ℕ, zero, suc, _+_, _≤_}
 use native.Mathlib.Omega.{arith}
 use lib.Dec.{eqb, ltb}
 use lib.ListN.{length, getD}
-use lib.Seq.{slice, slice-cons, length-slice}
+use lib.Seq.{slice, slice-cons}
 use borrow.Author.Tests.{lt-ltb, eqb-true}
 use Rattle.answer.specs.Answer.{accepted}
 use Rattle.answer.proofs.Laws.Test.{on-accepted}
 use Rattle.x10.specs.Places.{arePlaces, startCode, startsWith, unpaired, number, spelled}
 use Rattle.x10.specs.Pattern.{read, readKey}
-use Rattle.x10.proofs.Laws.Bits.{and-left, and-right, both, paired-places, unpaired-back, spelled-back}
+use Rattle.x10.proofs.Laws.Bits.{and-left, and-right, both, paired-places, unpaired-back}
 use Rattle.x10.proofs.Laws.Pattern.{read-on}
 
 spelled-places : (ps : List ℕ) (n : ℕ) → spelled ps ≡ accepted n → arePlaces ps ≡ true
@@ -51,21 +51,17 @@ joined l f (suc d) t h k a b =
     ap arePlaces (slice-cons f t l 0 (omega arith) k) ∙ both (ltb x 2) (arePlaces (slice (suc f) t l)) (and-left (ltb x 2) _ first) later
 
 module _ (l : List ℕ) where
-  pub read-places : 22 ≤ length l → startsWith startCode l ≡ true → (h : ℕ) → spelled (slice 4 12 l) ≡ accepted h → (k : ℕ) → spelled (slice 12 20 l) ≡ accepted k
+  read-places : 22 ≤ length l → startsWith startCode l ≡ true → (h : ℕ) → spelled (slice 4 12 l) ≡ accepted h → (k : ℕ) → spelled (slice 12 20 l) ≡ accepted k
       → (d : ℕ) → spelled (slice 20 22 l) ≡ accepted d → arePlaces (slice 0 22 l) ≡ true
   read-places n s h eh k ek d ed =
       joined l 0 4 22 (omega arith) n (start-places l (omega arith) s)
       (joined l 4 8 22 (omega arith) n (spelled-places (slice 4 12 l) h eh)
       (joined l 12 8 22 (omega arith) n (spelled-places (slice 12 20 l) k ek) (spelled-places (slice 20 22 l) d ed)))
 
-  -- house, key and D16 that are read behind a start code
+  -- behind a start code, house, key and D16 that are read: the reader goes on to them
   pub begun : 22 ≤ length l → startsWith startCode l ≡ true → (h : ℕ) → spelled (slice 4 12 l) ≡ accepted h → (k : ℕ) → spelled (slice 12 20 l) ≡ accepted k
       → (d : ℕ) → spelled (slice 20 22 l) ≡ accepted d → read l ≡ readKey l
   begun n s h eh k ek d ed = read-on l n (read-places n s h eh k ek d ed) s
-
-  -- four pairs spell less than 16
-  pub nibble : (f n : ℕ) → f + 8 ≤ length l → spelled (slice f (f + 8) l) ≡ accepted n → n < 16
-  nibble f n h e = spelled-back 4 (slice f (f + 8) l) n (length-slice f (f + 8) l h ∙ omega arith) e .0
 
   pub rest-places : 62 ≤ length l → (k : ℕ) → spelled (slice 22 30 l) ≡ accepted k → (d : ℕ) → spelled (slice 30 46 l) ≡ accepted d → (c : ℕ)
       → spelled (slice 46 62 l) ≡ accepted c → arePlaces (slice 22 62 l) ≡ true

@@ -12,11 +12,11 @@ use Rattle.answer.specs.Answer.{accepted, andThen}
 use Rattle.x10.specs.declared.Function.{Function}
 use Rattle.x10.specs.Codes.{codeAt, indexOf, houseCode, unitCode, functionCode, functionOf, extended1}
 use Rattle.x10.specs.Places.{arePlaces, startCode, paired, bits, spelled}
-use Rattle.x10.specs.Pattern.{Message, Bytes, unit, function, extended, ending, readFunction, readKey, read, standard, extension, write, writeFunctionCode}
+use Rattle.x10.specs.Pattern.{Message, Bytes, unit, function, extended, readFunction, readKey, read, standard, extension, write, writeFunctionCode}
 use Rattle.x10.proofs.Laws.Bits.{bits-places, paired-places, spelled-bits}
 use Rattle.x10.proofs.Laws.Codes.{index-of-code, code-small, function-found, code-below, code-plain}
 use Rattle.answer.proofs.Laws.Test.{passed, same, then-accepted}
-use Rattle.x10.proofs.Laws.Pattern.{ends, read-on, key-unit, key-function, function-known, function-extended, rest-read}
+use Rattle.x10.proofs.Laws.Pattern.{read-on, unit-accepted, key-function, function-accepted, function-extended, rest-accepted}
 
 places-append : (xs ys : List ℕ) → arePlaces xs ≡ true → arePlaces ys ≡ true → arePlaces (xs ++ ys) ≡ true
 places-append [] ys ex ey = ey
@@ -65,24 +65,21 @@ module _ (h k d : ℕ) (rest : List ℕ) (hh : h < 16) (hk : k < 16) (hd : d < 2
   unfolding standard
   begun-d16 = spelled-bits 1 d hd
 
-  begun-unit : d ≡ 0 → read (standard h k d ++ rest) ≡ ending 22 (standard h k d ++ rest) (unit (indexOf h) (indexOf k + 1))
-  begun-unit e = read-begun ∙ key-unit (standard h k d ++ rest) h begun-house k begun-key d begun-d16 e
+  begun-unit : d ≡ 0 → length (standard h k d ++ rest) ≤ 22 → read (standard h k d ++ rest) ≡ accepted (unit (indexOf h) (indexOf k + 1))
+  begun-unit e l = read-begun ∙ unit-accepted (standard h k d ++ rest) h begun-house k begun-key d begun-d16 e l
 
   begun-function : (d ≡ 0 → ⊥) → read (standard h k d ++ rest) ≡ readFunction (standard h k d ++ rest) h k
   begun-function n = read-begun ∙ key-function (standard h k d ++ rest) h begun-house k begun-key d begun-d16 n
 
 read-unit : (h k : ℕ) → h < 16 → k < 16 → read (standard h k 0) ≡ accepted (unit (indexOf h) (indexOf k + 1))
 unfolding standard
-read-unit h k hh hk =
-    begun-unit h k 0 [] hh hk (omega arith) refl
-    ∙ ends (standard h k 0) (unit (indexOf h) (indexOf k + 1)) 22 (omega arith)
+read-unit h k hh hk = begun-unit h k 0 [] hh hk (omega arith) refl (omega arith)
 
 read-function : (h : ℕ) (f : Function) → h < 16 → read (standard h (functionCode f) 1) ≡ accepted (function (indexOf h) f)
 unfolding standard
 read-function h f hh =
     begun-function h (functionCode f) 1 [] hh (code-below f) (omega arith) (omega arith)
-    ∙ function-known (standard h (functionCode f) 1) h (functionCode f) f (code-plain f) (function-found f)
-    ∙ ends (standard h (functionCode f) 1) (function (indexOf h) f) 22 (omega arith)
+    ∙ function-accepted (standard h (functionCode f) 1) h (functionCode f) f (code-plain f) (function-found f) (omega arith)
 
 read-extended : (h k d c : ℕ) → h < 16 → k < 16 → d < 256 → c < 256
     → read (standard h extended1 1 ++ extension k d c) ≡ accepted (extended (indexOf h) (indexOf k + 1) d c)
@@ -91,8 +88,7 @@ read-extended h k d c hh hk hd hc =
     let ps : List ℕ = standard h extended1 1 ++ extension k d c in
     begun-function h extended1 1 (extension k d c) hh (omega arith) (omega arith) (omega arith)
     ∙ function-extended ps h extended1 refl
-    ∙ rest-read ps h (omega arith) (extension-places k d c) k (spelled-bits 4 k hk) d (spelled-bits 8 d hd) c (spelled-bits 8 c hc)
-    ∙ ends ps (extended (indexOf h) (indexOf k + 1) d c) 62 (omega arith)
+    ∙ rest-accepted ps h (omega arith) (extension-places k d c) k (spelled-bits 4 k hk) d (spelled-bits 8 d hd) c (spelled-bits 8 c hc) (omega arith)
 
 -- the house and the unit of what was written
 house-back : (h k : ℕ) → houseCode h ≡ accepted k → (h < 16) × (indexOf k ≡ h) × (k < 16)

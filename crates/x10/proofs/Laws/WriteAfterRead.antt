@@ -2,11 +2,11 @@
 use mathlib.Core.Path.{_≡_, refl, sym, ap, ap₂, _∙_}
 use mathlib.Core.Bool.{Bool, true, false, not, cond}
 use mathlib.Core.List.{List, [], _∷_, _++_}
-use Prim.Native.Nat.{ℕ, _+_, _-_, _^_, _≤_, _<_}
+use Prim.Native.Nat.{ℕ, _+_, _-_, _≤_, _<_}
 use native.Mathlib.Omega.{arith}
 use lib.Dec.{eqb, ltb}
 use lib.ListN.{length, take, drop, take-append-drop}
-use lib.Seq.{slice, length-slice, length-take-le, take-take, take-all, drop-append-le}
+use lib.Seq.{slice, length-take-le, take-take, take-all, drop-append-le}
 use borrow.Author.Tests.{ltb-false, eqb-true, eqb-false, not-false}
 use Rattle.answer.specs.Answer.{Outcome, refused, accepted, refuseIf, andThen}
 use Rattle.x10.specs.declared.Function.{Function}
@@ -14,7 +14,7 @@ use Rattle.x10.specs.declared.Function.the-variants.{On}
 use Rattle.x10.specs.Codes.{codeAt, indexOf, houseCode, unitCode, functionOf, extended1}
 use Rattle.x10.specs.Places.{arePlaces, startCode, startsWith, paired, bits, spelled}
 use Rattle.x10.specs.Pattern.{Message, unit, function, extended, ending, readRest, readFunction, readKey, read, standard, extension, write}
-use Rattle.x10.proofs.Laws.Bits.{and-left, and-right, spelled-back}
+use Rattle.x10.proofs.Laws.Bits.{and-left, and-right, part-back}
 use Rattle.x10.proofs.Laws.Codes.{code-at-index, index-small, found-code}
 use Rattle.answer.proofs.Laws.Test.{passed, same, then-accepted}
 use Rattle.x10.proofs.Laws.Write.{house-listed, unit-listed, unit-written, function-written, extended-written}
@@ -50,11 +50,6 @@ ending-back : (n : ℕ) (ps : List ℕ) (m m′ : Message) → ending n ps m ≡
 ending-back n ps m m′ e =
     let r = passed (ltb n (length ps)) 4 (accepted m) m′ e in
     (ltb-false n (length ps) (r .0), same (r .1))
-
--- what a part of the places spells, given back
-part-back : (f t w : ℕ) (ps : List ℕ) (n : ℕ) → t ≤ length ps → t - f ≡ w + w → spelled (slice f t ps) ≡ accepted n
-    → (n < 2 ^ w) × (slice f t ps ≡ paired (bits w n))
-part-back f t w ps n h e s = spelled-back w (slice f t ps) n (length-slice f t ps h ∙ e) s
 
 unit-again : (k : ℕ) → k < 16 → unitCode (indexOf k + 1) ≡ accepted k
 unit-again k h =

@@ -5,7 +5,7 @@ use lib.ListN.{length}
 use mathlib.Core.List.{List, [], _∷_}
 use Rattle.answer.specs.Answer.{inRoom}
 use Rattle.answer.specs.Packed.{field}
-use Rattle.host.proofs.Laws.{of-lower}
+use Rattle.answer.proofs.Laws.Packed.{of-lower}
 use Rattle.host.proofs.captures.capture_listing.Statement.{statement}
 use Rattle.host.proofs.captures.capture_listing.Tie as tie
 use Rattle.listing.specs.Text.{listing}

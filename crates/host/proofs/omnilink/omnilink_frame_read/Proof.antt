@@ -1,5 +1,5 @@
 use borrow.Author.Needs.{needs}
-use Rattle.host.proofs.Laws.{of-lower}
+use Rattle.answer.proofs.Laws.Packed.{of-lower}
 use Rattle.host.proofs.omnilink.omnilink_frame_read.Statement.{statement}
 use Rattle.host.proofs.omnilink.omnilink_frame_read.Tie as tie
 use Rattle.link.specs.Frame.{header, readFrame}

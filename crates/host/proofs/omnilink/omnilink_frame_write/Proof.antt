@@ -5,7 +5,7 @@ use lib.ListN.{length}
 use mathlib.Core.List.{List, [], _∷_}
 use Rattle.answer.specs.Answer.{inRoom}
 use Rattle.answer.specs.Packed.{word}
-use Rattle.host.proofs.Laws.{of-lower}
+use Rattle.answer.proofs.Laws.Packed.{of-lower}
 use Rattle.host.proofs.omnilink.omnilink_frame_write.Statement.{statement}
 use Rattle.host.proofs.omnilink.omnilink_frame_write.Tie as tie
 use Rattle.link.specs.Frame.{writeFrame}

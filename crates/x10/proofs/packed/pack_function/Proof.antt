@@ -1,18 +1,17 @@
 -- `pack_function` meets its contract: a function of the table is packed, all else is read anew. Assumes nothing.
 use mathlib.Core.Path.{_≡_, sym, ap, ap₂, _∙_}
-use Prim.Native.Nat.{ℕ, _≤_}
+use mathlib.Core.List.{[], _∷_}
+use Prim.Native.Nat.{ℕ}
 use native.Mathlib.Omega.{arith}
 use denote.Ref.{now}
-use lib.ListN.{length}
-use mathlib.Core.List.{[], _∷_}
 use Rattle.answer.specs.Answer.{Outcome, accepted, onAccepted}
 use Rattle.answer.specs.Packed.{packed, byte}
 use Rattle.x10.specs.Answers.{fields}
-use Rattle.x10.specs.Codes.{indexOf, functionOf}
-use Rattle.x10.specs.Pattern.{Message, function}
+use Rattle.x10.specs.Codes.{functionOf}
+use Rattle.x10.specs.Pattern.{Message}
 use Rattle.x10.specs.Parts.{lookupOf}
 use Rattle.x10.proofs.Laws.Codes.{found-code}
-use Rattle.x10.proofs.Laws.Pattern.{function-extended, function-known, ends}
+use Rattle.x10.proofs.Laws.Pattern.{function-extended, function-accepted}
 use borrow.Author.Needs.{needs}
 use Rattle.x10.proofs.packed.pack_function.Statement.{statement}
 use Rattle.x10.proofs.packed.pack_function.Tie as tie
@@ -59,15 +58,13 @@ returns-4 c =
     let left = told .before .before .before in
     let start = left .before .before in
     let a = start .args in
-    let ps = now (a .places) in
     let f = told .enum-told .given .0 .0 in
     let e : functionOf (a .key) ≡ accepted f = sym (told .before .before .function-of .ensures) ∙ ap lookupOf (told .enum-told .given .1) in
-    let l : length ps ≤ 22 = omega (arith, c .before .before .if2 .left) in
     c .pack-5-bytes .ensures
     ∙ ap₂ (λ (i k : ℕ). packed (accepted (byte 1 ∷ byte i ∷ byte k ∷ byte 0 ∷ byte 0 ∷ []))) (c .before .index-of .ensures) (sym (found-code (a .key) f e))
     ∙ sym
     (ap (λ (o : Outcome Message). packed (onAccepted fields o))
-    (start .pre .1 ∙ function-known ps (a .house) (a .key) f (left .if1 .left) e ∙ ends ps (function (indexOf (a .house)) f) 22 l))
+    (start .pre .1 ∙ function-accepted (now (a .places)) (a .house) (a .key) f (left .if1 .left) e (omega (arith, c .before .before .if2 .left))))
 
 pub pack-function-spec : {M : Type 1} → statement M
 pack-function-spec =

@@ -1,21 +1,20 @@
 -- `pack_key` meets its contract: what the pairs spell is packed, all else is read anew. Assumes nothing.
-use mathlib.Core.Path.{_≡_, sym, ap, ap₂, _∙_}
-use mathlib.Core.List.{List, [], _∷_}
+use mathlib.Core.Path.{_≡_, refl, sym, ap, ap₂, _∙_}
+use mathlib.Core.List.{List}
 use Prim.Native.Nat.{ℕ, _+_, _≤_, _<_}
 use native.Mathlib.Omega.{arith}
 use denote.Ref.{now}
-use lib.ListN.{length}
 use lib.Seq.{slice}
 use Rattle.answer.specs.Answer.{Outcome, accepted, onAccepted}
 use Rattle.answer.specs.Packed.{packed}
 use Rattle.x10.specs.Answers.{fields}
-use Rattle.x10.specs.Codes.{indexOf}
 use Rattle.x10.specs.Places.{spelled}
 use Rattle.x10.specs.Pattern.{Message, unit, read, readKey}
 use Rattle.x10.specs.Parts.{spellingOf}
+use Rattle.x10.proofs.Laws.Bits.{part-back}
 use Rattle.x10.proofs.Laws.Codes.{index-small}
-use Rattle.x10.proofs.Laws.Pattern.{ends, key-unit, key-function}
-use Rattle.x10.proofs.Laws.Read.{nibble, begun}
+use Rattle.x10.proofs.Laws.Pattern.{unit-accepted, key-function}
+use Rattle.x10.proofs.Laws.Read.{begun}
 use borrow.Author.Needs.{needs}
 use Rattle.x10.proofs.packed.pack_key.Statement.{statement}
 use Rattle.x10.proofs.packed.pack_key.Tie as tie
@@ -40,14 +39,14 @@ d16-read : (w : tie.After-known-told3) → spelled (slice 20 22 (places (first (
 d16-read w = sym (w .before .before .before .spelled3 .ensures) ∙ ap spellingOf (w .before .d16-bits .given .1)
 
 house-small : (w : tie.After-known-told) → w .before .house-bits .given .0 .0 < 16
-house-small w = nibble (places w) 4 _ (omega (arith, w .before .before .before .before .before .pre .0)) (house-read w)
+house-small w = part-back 4 12 4 (places w) _ (omega (arith, w .before .before .before .before .before .pre .0)) refl (house-read w) .0
 
 key-small : (w : tie.After-known-told2) → w .before .key-bits .given .0 .0 < 16
-key-small w = nibble (places (first w)) 12 _ (omega (arith, first w .before .before .before .before .before .pre .0)) (key-read w)
+key-small w = part-back 12 20 4 (places (first w)) _ (omega (arith, first w .before .before .before .before .before .pre .0)) refl (key-read w) .0
 
--- so the pattern is begun
-goes-on : (w : tie.After-known-told3) → read (places (first (second w))) ≡ readKey (places (first (second w)))
-goes-on w =
+-- so the reader goes on to house and key
+reads-on : (w : tie.After-known-told3) → read (places (first (second w))) ≡ readKey (places (first (second w)))
+reads-on w =
     let start = first (second w) .before .before .before .before .before in
     begun (places (first (second w))) (start .pre .0) (start .pre .1) _ (house-read (first (second w))) _ (key-read (second w)) _ (d16-read w)
 
@@ -117,22 +116,19 @@ pack-5-bytes-requires c κs = search needs
 returns-5 : tie.Need-returns-5
 returns-5 c =
     let w = c .before .before .before .before .before in
-    let ps = places (first (second w)) in
-    let l : length ps ≤ 22 = omega (arith, c .before .before .before .if2 .left) in
     c .pack-5-bytes .ensures
     ∙ ap₂ (λ (i j : ℕ). packed (onAccepted fields (accepted (unit i (j + 1))))) (c .before .before .index-of .ensures) (c .before .index-of2 .ensures)
     ∙ sym
     (ap (λ (o : Outcome Message). packed (onAccepted fields o))
-    (goes-on w
-    ∙ key-unit ps _ (house-read (first (second w))) _ (key-read (second w)) _ (d16-read w) (c .before .before .before .before .if1 .taken)
-    ∙ ends ps (unit (indexOf _) (indexOf _ + 1)) 22 l))
+    (reads-on w
+    ∙ unit-accepted (places (first (second w))) _ (house-read (first (second w))) _ (key-read (second w)) _ (d16-read w) (c .before .before .before .before .if1 .taken) (omega (arith, c .before .before .before .if2 .left))))
 
 pack-function-requires : tie.Need-pack-function-requires
 pack-function-requires c κs =
     let w = c .before in
     let ps = places (first (second w)) in (
       house-small (first (second w)),
-      goes-on w
+      reads-on w
           ∙ key-function ps _ (house-read (first (second w))) _ (key-read (second w)) _ (d16-read w) (c .if1 .left),
     )
 

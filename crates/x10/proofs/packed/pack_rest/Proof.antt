@@ -1,5 +1,5 @@
 -- `pack_rest` meets its contract: what the pairs spell is packed, all else is read anew. Assumes nothing.
-use mathlib.Core.Path.{_≡_, sym, ap, ap₂, _∙_}
+use mathlib.Core.Path.{_≡_, refl, sym, ap, ap₂, _∙_}
 use mathlib.Core.List.{List}
 use Prim.Native.Nat.{ℕ, _+_, _≤_, _<_}
 use native.Mathlib.Omega.{arith}
@@ -9,13 +9,13 @@ use lib.Seq.{slice}
 use Rattle.answer.specs.Answer.{Outcome, accepted, onAccepted}
 use Rattle.answer.specs.Packed.{packed}
 use Rattle.x10.specs.Answers.{fields}
-use Rattle.x10.specs.Codes.{indexOf}
 use Rattle.x10.specs.Places.{spelled}
 use Rattle.x10.specs.Pattern.{Message, extended}
 use Rattle.x10.specs.Parts.{spellingOf}
+use Rattle.x10.proofs.Laws.Bits.{part-back}
 use Rattle.x10.proofs.Laws.Codes.{index-small}
-use Rattle.x10.proofs.Laws.Pattern.{rest-read, ends}
-use Rattle.x10.proofs.Laws.Read.{nibble, rest-places}
+use Rattle.x10.proofs.Laws.Pattern.{rest-accepted}
+use Rattle.x10.proofs.Laws.Read.{rest-places}
 use borrow.Author.Needs.{needs}
 use Rattle.x10.proofs.packed.pack_rest.Statement.{statement}
 use Rattle.x10.proofs.packed.pack_rest.Tie as tie
@@ -43,7 +43,7 @@ long : (w : tie.After-known-told) → length (places w) ≡ 62
 long w = w .before .before .before .before .if1 .left
 
 key-small : (w : tie.After-known-told) → w .before .key-bits .given .0 .0 < 16
-key-small w = nibble (places w) 22 _ (omega (arith, long w)) (key-read w)
+key-small w = part-back 22 30 4 (places w) _ (omega (arith, long w)) refl (key-read w) .0
 
 read-anew-requires : tie.Need-read-anew-requires
 read-anew-requires c κs = search needs
@@ -116,14 +116,12 @@ returns-5 c =
     let d = second w .before .data-bits .given .0 .0 in
     let m = w .before .command-bits .given .0 .0 in
     let n : 62 ≤ length ps = omega (arith, long v) in
-    let l : length ps ≤ 62 = omega (arith, long v) in
     c .pack-5-bytes .ensures
     ∙ ap₂ (λ (i j : ℕ). packed (onAccepted fields (accepted (extended i (j + 1) d m)))) (c .before .before .index-of .ensures) (c .before .index-of2 .ensures)
     ∙ sym
     (ap (λ (o : Outcome Message). packed (onAccepted fields o))
     (v .before .before .before .before .before .before .pre .1
-    ∙ rest-read ps _ n (rest-places ps n _ (key-read v) d (data-read (second w)) m (command-read w)) _ (key-read v) d (data-read (second w)) m (command-read w)
-    ∙ ends ps (extended (indexOf _) (indexOf _ + 1) d m) 62 l))
+    ∙ rest-accepted ps _ n (rest-places ps n _ (key-read v) d (data-read (second w)) m (command-read w)) _ (key-read v) d (data-read (second w)) m (command-read w) (omega (arith, long v))))
 
 pub pack-rest-spec : {M : Type 1} → statement M
 pack-rest-spec =

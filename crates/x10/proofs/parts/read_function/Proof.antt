@@ -1,14 +1,13 @@
 -- `read_function` meets its contract: each way out is a check decided by its fact. Assumes nothing.
 use mathlib.Core.Path.{_≡_, sym, ap, _∙_}
-use Prim.Native.Nat.{ℕ, _≤_}
+use Prim.Native.Nat.{ℕ}
 use native.Mathlib.Omega.{arith}
 use denote.Ref.{now}
-use lib.ListN.{length}
 use Rattle.answer.specs.Answer.{refused, accepted}
-use Rattle.x10.specs.Codes.{indexOf, functionOf}
+use Rattle.x10.specs.Codes.{functionOf}
 use Rattle.x10.specs.Pattern.{function}
 use Rattle.x10.specs.Parts.{lookupOf}
-use Rattle.x10.proofs.Laws.Pattern.{function-extended, function-unknown, function-known, ends, goes-on}
+use Rattle.x10.proofs.Laws.Pattern.{function-extended, function-unknown, function-known, function-accepted, goes-on}
 use borrow.Author.Needs.{needs}
 use Rattle.x10.proofs.parts.read_function.Statement.{statement}
 use Rattle.x10.proofs.parts.read_function.Tie as tie
@@ -50,14 +49,12 @@ index-of-requires c κs = search needs
 
 returns-4 : tie.Need-returns-4
 returns-4 c =
-    let ps = now (c .before .before .before .before .before .before .before .before .args .places) in
     let a = c .before .before .before .before .before .before .before .before .args in
     let f = c .before .before .before .known .given .0 .0 in
     let e : functionOf (a .key) ≡ accepted f = sym (c .before .before .before .before .before .function-of .ensures) ∙ ap lookupOf (c .before .before .before .known .given .1) in
     let n = c .before .before .before .before .before .before .if1 .left in
-    let l : length ps ≤ 22 = omega (arith, c .before .if2 .left) in
     ap (λ (i : ℕ). accepted (function i f)) (c .index-of .ensures)
-    ∙ sym (function-known ps (a .house) (a .key) f n e ∙ ends ps (function (indexOf (a .house)) f) 22 l)
+    ∙ sym (function-accepted (now (a .places)) (a .house) (a .key) f n e (omega (arith, c .before .if2 .left)))
 
 pub read-function-spec : {M : Type 1} → statement M
 read-function-spec =

@@ -1,19 +1,17 @@
 -- `read_key` meets its contract: each way out is a check decided by what the pairs spell. Assumes nothing.
-use mathlib.Core.Path.{_≡_, sym, ap, ap₂, _∙_}
+use mathlib.Core.Path.{_≡_, refl, sym, ap, ap₂, _∙_}
 use mathlib.Core.List.{List}
 use Prim.Native.Nat.{ℕ, _+_, _≤_, _<_}
 use native.Mathlib.Omega.{arith}
 use denote.Ref.{now}
-use lib.ListN.{length}
 use lib.Seq.{slice}
 use Rattle.answer.specs.Answer.{accepted}
-use Rattle.x10.specs.Codes.{indexOf}
 use Rattle.x10.specs.Places.{spelled}
 use Rattle.x10.specs.Pattern.{unit}
 use Rattle.x10.specs.Parts.{spellingOf}
+use Rattle.x10.proofs.Laws.Bits.{part-back}
 use Rattle.x10.proofs.Laws.Codes.{index-small}
-use Rattle.x10.proofs.Laws.Pattern.{ends, goes-on, house-wrong, key-wrong, d16-wrong, key-unit, key-function}
-use Rattle.x10.proofs.Laws.Read.{nibble}
+use Rattle.x10.proofs.Laws.Pattern.{goes-on, house-wrong, key-wrong, d16-wrong, key-unit, unit-accepted, key-function}
 use borrow.Author.Needs.{needs}
 use Rattle.x10.proofs.parts.read_key.Statement.{statement}
 use Rattle.x10.proofs.parts.read_key.Tie as tie
@@ -38,10 +36,10 @@ d16-read : (w : tie.After-known-told3) → spelled (slice 20 22 (places (first (
 d16-read w = sym (w .before .before .before .spelled3 .ensures) ∙ ap spellingOf (w .before .d16-bits .given .1)
 
 house-small : (w : tie.After-known-told) → w .before .house-bits .given .0 .0 < 16
-house-small w = nibble (places w) 4 _ (omega (arith, w .before .before .before .before .before .pre)) (house-read w)
+house-small w = part-back 4 12 4 (places w) _ (omega (arith, w .before .before .before .before .before .pre)) refl (house-read w) .0
 
 key-small : (w : tie.After-known-told2) → w .before .key-bits .given .0 .0 < 16
-key-small w = nibble (places (first w)) 12 _ (omega (arith, first w .before .before .before .before .before .pre)) (key-read w)
+key-small w = part-back 12 20 4 (places (first w)) _ (omega (arith, first w .before .before .before .before .before .pre)) refl (key-read w) .0
 
 spelled-requires : tie.Need-spelled-requires
 spelled-requires c κs = search needs
@@ -104,17 +102,12 @@ add-t17 c = omega (arith, index-small _ (key-small (second (c .before .before .b
 returns-5 : tie.Need-returns-5
 returns-5 c =
     let w = c .before .before .before .before in
-    let ps = places (first (second w)) in
-    let l : length ps ≤ 22 = omega (arith, c .before .before .if2 .left) in
     ap₂ (λ (i j : ℕ). accepted (unit i (j + 1))) (c .before .index-of .ensures) (c .index-of2 .ensures)
     ∙ sym
-    (key-unit ps _ (house-read (first (second w))) _ (key-read (second w)) _ (d16-read w) (c .before .before .before .if1 .taken)
-    ∙ ends ps (unit (indexOf _) (indexOf _ + 1)) 22 l)
+    (unit-accepted (places (first (second w))) _ (house-read (first (second w))) _ (key-read (second w)) _ (d16-read w) (c .before .before .before .if1 .taken) (omega (arith, c .before .before .if2 .left)))
 
 read-function-requires : tie.Need-read-function-requires
-read-function-requires c κs =
-    let w = first (second (c .before)) in
-    (house-small w, w .before .before .before .before .before .pre)
+read-function-requires c κs = house-small (first (second (c .before)))
 
 returns-6 : tie.Need-returns-6
 returns-6 c =

@@ -1,5 +1,5 @@
 -- `read_rest` meets its contract: each way out is a check decided by its fact. Assumes nothing.
-use mathlib.Core.Path.{_≡_, sym, ap, ap₂, _∙_}
+use mathlib.Core.Path.{_≡_, refl, sym, ap, ap₂, _∙_}
 use mathlib.Core.Bool.{true}
 use mathlib.Core.List.{List}
 use Prim.Native.Nat.{ℕ, _+_, _≤_, _<_}
@@ -8,13 +8,12 @@ use denote.Ref.{now}
 use lib.ListN.{length}
 use lib.Seq.{slice}
 use Rattle.answer.specs.Answer.{accepted}
-use Rattle.x10.specs.Codes.{indexOf}
 use Rattle.x10.specs.Places.{arePlaces, spelled}
 use Rattle.x10.specs.Pattern.{extended}
 use Rattle.x10.specs.Parts.{spellingOf}
+use Rattle.x10.proofs.Laws.Bits.{part-back}
 use Rattle.x10.proofs.Laws.Codes.{index-small}
-use Rattle.x10.proofs.Laws.Pattern.{rest-short, rest-wrong, rest-key-wrong, data-wrong, command-wrong, rest-read, ends, goes-on}
-use Rattle.x10.proofs.Laws.Read.{nibble}
+use Rattle.x10.proofs.Laws.Pattern.{rest-short, rest-wrong, rest-key-wrong, data-wrong, command-wrong, rest-read, rest-accepted, goes-on}
 use borrow.Author.Tests.{not-true, not-false}
 use borrow.Author.Needs.{needs}
 use Rattle.x10.proofs.parts.read_rest.Statement.{statement}
@@ -39,11 +38,11 @@ second w = w .before .before .before .before
 command-read : (w : tie.After-known-told3) → spelled (slice 46 62 (places (first (second w)))) ≡ accepted (w .before .command-bits .given .0 .0)
 command-read w = sym (w .before .before .before .spelled3 .ensures) ∙ ap spellingOf (w .before .command-bits .given .1)
 
-key-small : (w : tie.After-known-told) → w .before .key-bits .given .0 .0 < 16
-key-small w = nibble (places w) 22 _ (omega (arith, w .before .before .before .before .before .before .if1 .left)) (key-read w)
-
 long : (w : tie.After-known-told) → 62 ≤ length (places w)
 long w = w .before .before .before .before .before .before .if1 .left
+
+key-small : (w : tie.After-known-told) → w .before .key-bits .given .0 .0 < 16
+key-small w = part-back 22 30 4 (places w) _ (omega (arith, long w)) refl (key-read w) .0
 
 all-places : (w : tie.After-known-told) → arePlaces (slice 22 62 (places w)) ≡ true
 all-places w = sym (w .before .before .before .before .before .are-places .ensures) ∙ not-false _ (w .before .before .before .before .if2 .left)
@@ -130,11 +129,9 @@ returns-7 c =
     let v = first (second w) in
     let d = second w .before .data-bits .given .0 .0 in
     let m = w .before .command-bits .given .0 .0 in
-    let l : length (places v) ≤ 62 = omega (arith, c .before .before .if3 .left) in
     ap₂ (λ (i j : ℕ). accepted (extended i (j + 1) d m)) (c .before .index-of .ensures) (c .index-of2 .ensures)
     ∙ sym
-    (rest-read (places v) _ (long v) (all-places v) _ (key-read v) d (data-read (second w)) m (command-read w)
-    ∙ ends (places v) (extended (indexOf _) (indexOf _ + 1) d m) 62 l)
+    (rest-accepted (places v) _ (long v) (all-places v) _ (key-read v) d (data-read (second w)) m (command-read w) (omega (arith, c .before .before .if3 .left)))
 
 pub read-rest-spec : {M : Type 1} → statement M
 read-rest-spec =

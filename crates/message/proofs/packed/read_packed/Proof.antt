@@ -9,8 +9,8 @@ use Rattle.message.proofs.Laws.Framed.{framed, unframed, part-length}
 use Rattle.message.specs.Message.{Message, messageOf, readMessage, counted}
 use Rattle.message.specs.Fields.{messageFields}
 use borrow.Author.Needs.{needs}
-use Rattle.message.proofs.message.read_packed.Statement.{statement}
-use Rattle.message.proofs.message.read_packed.Tie as tie
+use Rattle.message.proofs.packed.read_packed.Statement.{statement}
+use Rattle.message.proofs.packed.read_packed.Tie as tie
 
 abbrev packedOf : Outcome Message → ℕ
 packedOf o = packed (onAccepted (λ m. messageFields (counted m)) o)

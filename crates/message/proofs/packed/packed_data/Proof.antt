@@ -4,8 +4,8 @@ use Rattle.message.proofs.Laws.Fault.{plain-none, packed-by-fault}
 use Rattle.message.proofs.Laws.Kinds.{plain-type}
 use Rattle.message.specs.Parts.{itemsIn}
 use borrow.Author.Needs.{needs}
-use Rattle.message.proofs.message.packed_data.Statement.{statement}
-use Rattle.message.proofs.message.packed_data.Tie as tie
+use Rattle.message.proofs.packed.packed_data.Statement.{statement}
+use Rattle.message.proofs.packed.packed_data.Tie as tie
 
 is-plain-requires : tie.Need-is-plain-requires
 is-plain-requires c κs = search needs

@@ -6,8 +6,8 @@ use Rattle.answer.specs.Answer.{accepted}
 use Rattle.answer.specs.Packed.{packed, byte}
 use Rattle.answer.proofs.Laws.Decided.{decided}
 use borrow.Author.Needs.{needs}
-use Rattle.message.proofs.message.packed_unless.Statement.{statement}
-use Rattle.message.proofs.message.packed_unless.Tie as tie
+use Rattle.message.proofs.packed.packed_unless.Statement.{statement}
+use Rattle.message.proofs.packed.packed_unless.Tie as tie
 
 returns : tie.Need-returns
 returns c = search decided

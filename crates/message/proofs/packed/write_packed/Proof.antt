@@ -1,8 +1,8 @@
 use mathlib.Core.Path.{sym, _∙_}
 use Rattle.message.proofs.Laws.Kinds.{plain-type}
 use borrow.Author.Needs.{needs}
-use Rattle.message.proofs.message.write_packed.Statement.{statement}
-use Rattle.message.proofs.message.write_packed.Tie as tie
+use Rattle.message.proofs.packed.write_packed.Statement.{statement}
+use Rattle.message.proofs.packed.write_packed.Tie as tie
 
 is-plain-requires : tie.Need-is-plain-requires
 is-plain-requires c κs = search needs
@@ -10,8 +10,8 @@ is-plain-requires c κs = search needs
 plain-requires : tie.Need-plain-requires
 plain-requires c κs = search needs
 
-pack-unless-requires : tie.Need-pack-unless-requires
-pack-unless-requires c κs =
+write-packed-unless-requires : tie.Need-write-packed-unless-requires
+write-packed-unless-requires c κs =
     let at = c .before .before .before in
     let a = at .before .before .before .args in
     c .before .plain .ensures ∙ plain-type (a .kind) (a .«data» .now) (sym (at .is-plain .ensures) ∙ c .before .before .if1 .taken)
@@ -25,8 +25,8 @@ returns c = search needs
 fault-requires : tie.Need-fault-requires
 fault-requires c κs = search needs
 
-pack-unless-requires-2 : tie.Need-pack-unless-requires-2
-pack-unless-requires-2 c κs = search needs
+write-packed-unless-requires-2 : tie.Need-write-packed-unless-requires-2
+write-packed-unless-requires-2 c κs = search needs
 
 same-length-2 : tie.Need-same-length-2
 same-length-2 c = search needs
@@ -40,10 +40,10 @@ write-packed-spec =
     (tie.spec
     is-plain-requires
     plain-requires
-    pack-unless-requires
+    write-packed-unless-requires
     same-length
     returns
     fault-requires
-    pack-unless-requires-2
+    write-packed-unless-requires-2
     same-length-2
     returns-2)

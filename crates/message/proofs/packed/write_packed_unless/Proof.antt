@@ -1,7 +1,7 @@
 use Rattle.message.proofs.Laws.Written.{packs-faulty, packs-faultless}
 use borrow.Author.Needs.{needs}
-use Rattle.message.proofs.message.pack_unless.Statement.{statement}
-use Rattle.message.proofs.message.pack_unless.Tie as tie
+use Rattle.message.proofs.packed.write_packed_unless.Statement.{statement}
+use Rattle.message.proofs.packed.write_packed_unless.Tie as tie
 
 returns : tie.Need-returns
 returns c =
@@ -26,6 +26,6 @@ returns-2 c =
     let write = at-write .write .ensures in
     packs-faultless (a .kind) (a .«data» .now) _ (at .pre) (a .out .now) (at-write .before .before .if1 .left) _ _ (write .0) (write .1) _ (c .pack-written .ensures .0)
 
-pub pack-unless-spec : {M : Type 1} → statement M
-pack-unless-spec =
+pub write-packed-unless-spec : {M : Type 1} → statement M
+write-packed-unless-spec =
     tie.close (tie.spec returns write-requires pack-written-requires same-length returns-2)

@@ -1,2 +1,0 @@
--- Laws that several exported calls cite.
-mod Laws
