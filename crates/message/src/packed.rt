@@ -1,4 +1,4 @@
-// Reading and writing for C: each answer is one packed number, with no message and no refusal made on the way.
+// Reading and writing for C: each answer is one packed number, and no typed message is made on the way.
 use crate::check;
 use link::frame::FrameRead;
 ghost use mathlib.Core.Path.{_≡_};
