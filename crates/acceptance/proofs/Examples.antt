@@ -23,11 +23,6 @@ use Rattle.x10.specs.Pattern.{readKey, standard, read as readPattern, write as 
 use Rattle.x10.specs.Places.{spelled}
 use Rattle.acceptance.specs.Examples.{Holds, Marked-examples}
 
--- a case and the rest of the list
-infixr 5 _and_
-_and_ : {A B : Type 0} → A → B → A × B
-a and b = (a, b)
-
 pub marked-examples : Marked-examples
 unfolding Holds crc feed readFrame readBody readMessage messageOf withData readPlain
     read frame total bytesOf asMessage runAllowed listed readOnly allowed stored allSettable sentBy mapAfter step
@@ -36,6 +31,4 @@ marked-examples map room whole fits =
     let present : 59 < length map = omega arith in
     let roomy : ltb room 18 ≡ false = le-ltb room 18 fits in
     let complete : eqb (length map) 256 ≡ true = eq-eqb (length map) 256 whole in
-    refl and refl and refl and refl and refl and refl and refl and refl
-    and (simp (roomy, complete)) and put-same map 59 80 present and (simp (roomy, complete))
-    and refl and refl and refl and refl and tt
+    (refl, (refl, (refl, (refl, (refl, (refl, (refl, (refl, (simp (roomy, complete), (put-same map 59 80 present, (simp (roomy, complete), (refl, (refl, (refl, (refl, tt)))))))))))))))
