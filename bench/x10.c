@@ -1,4 +1,4 @@
-/* X-10 patterns of 22 and 62 places, read and written. */
+/* X-10 patterns of 22 and 62 places, read, refused for the last complement, and written. */
 #include "bench.h"
 #include "gateway.h"
 
@@ -84,10 +84,12 @@ PLAIN uint64_t plain_write_extended(uint8_t house, uint8_t unit, uint8_t data, u
 }
 
 enum { PATTERNS = 256 };
-static uint8_t standard[PATTERNS][22], extended[PATTERNS][62], out[62];
+static uint8_t standard[PATTERNS][22], extended[PATTERNS][62], wrong_22[PATTERNS][22], wrong_62[PATTERNS][62], out[62];
 
 SIDES(read_22, x10_read, plain_read, standard[i % PATTERNS], 22)
 SIDES(read_62, x10_read, plain_read, extended[i % PATTERNS], 62)
+SIDES(refuse_22, x10_read, plain_read, wrong_22[i % PATTERNS], 22)
+SIDES(refuse_62, x10_read, plain_read, wrong_62[i % PATTERNS], 62)
 SIDES(write_22, x10_write_unit, plain_write_unit, i % 16, i / 16 % 16 + 1, out, sizeof out)
 SIDES(write_62, x10_write_extended, plain_write_extended, i % 16, i / 16 % 16 + 1, (uint8_t)(i * 37), (uint8_t)(i * 101), out, sizeof out)
 
@@ -96,9 +98,15 @@ int main(void)
     for (int i = 0; i < PATTERNS; i++) {
         plain_write_unit(i % 16, i / 16 + 1, standard[i], 22);
         plain_write_extended(i % 16, i / 16 + 1, i * 37 & 255, i * 101 & 255, extended[i], 62);
+        memcpy(wrong_22[i], standard[i], 22);
+        wrong_22[i][21] = wrong_22[i][20];
+        memcpy(wrong_62[i], extended[i], 62);
+        wrong_62[i][61] = wrong_62[i][60];
     }
     ROW("x10_read, 22 places", read_22, PATTERNS, out);
     ROW("x10_read, 62 places", read_62, PATTERNS, out);
+    ROW("x10_read, 22 places, refused", refuse_22, PATTERNS, out);
+    ROW("x10_read, 62 places, refused", refuse_62, PATTERNS, out);
     ROW("x10_write_unit", write_22, PATTERNS, out);
     ROW("x10_write_extended", write_62, PATTERNS, out);
     return 0;

@@ -10,7 +10,7 @@ use codes::Lookup;
 use codes::code_at;
 use codes::function_of;
 use packed::pack_key;
-use packed::read_anew;
+use packed::refuse_key;
 use pairs::are_places;
 use parts::STANDARD;
 use parts::read_key;
@@ -106,10 +106,10 @@ pub fn read_packed(places: &[u8]) -> u64
     ensures { λ n. ⌜ n ≡ packed (onAccepted fields (read (now (places .entry)))) ⌝ }
 {
     if places.len() < STANDARD {
-        return read_anew(places);
+        return 1;
     }
     if !starts(places) {
-        return read_anew(places);
+        return refuse_key(places);
     }
     pack_key(places)
 }

@@ -8,11 +8,18 @@ use lib.Dec.{eqb}
 use lib.ListN.{length, getD}
 use lib.Seq.{slice}
 use borrow.Author.Tests.{lt-ltb, le-ltb, eq-eqb, ne-eqb}
-use Rattle.answer.specs.Answer.{refused, accepted}
+use Rattle.answer.specs.Answer.{Outcome, refused, accepted, onAccepted}
+use Rattle.answer.specs.Packed.{packed}
 use Rattle.x10.specs.declared.Function.{Function}
 use Rattle.x10.specs.Codes.{indexOf, extended1, functionOf}
 use Rattle.x10.specs.Places.{arePlaces, startCode, startsWith, spelled}
+use Rattle.x10.specs.Answers.{fields}
+use Rattle.x10.specs.Parts.{refusedKey, refusedRest}
 use Rattle.x10.specs.Pattern.{Message, unit, function, extended, ending, readRest, readFunction, readKey, read}
+
+-- what C is answered
+abbrev pub answered : Outcome Message → ℕ
+answered o = packed (onAccepted fields o)
 
 -- the start code, place by place
 pub start-test : (l : List ℕ) → 4 ≤ length l
@@ -51,6 +58,15 @@ module _ (ps : List ℕ) where
   pub read-on : 22 ≤ length ps → arePlaces (slice 0 22 ps) ≡ true → startsWith startCode ps ≡ true → read ps ≡ readKey ps
   unfolding read
   read-on h e s = simp (le-ltb (length ps) 22 h, e, s)
+
+  -- a wrong start code, and a wrong complement behind the start code
+  pub start-refused : 22 ≤ length ps → startsWith startCode ps ≡ false → read ps ≡ refusedKey ps
+  unfolding read refusedKey
+  start-refused h s = simp (le-ltb (length ps) 22 h, s)
+
+  pub key-refused : 22 ≤ length ps → startsWith startCode ps ≡ true → readKey ps ≡ refused 5 → read ps ≡ refusedKey ps
+  unfolding read refusedKey
+  key-refused h s e = simp (le-ltb (length ps) 22 h, s, e)
 
   pub house-wrong : spelled (slice 4 12 ps) ≡ refused 5 → readKey ps ≡ refused 5
   unfolding readKey
@@ -105,24 +121,30 @@ module _ (ps : List ℕ) where
     unfolding readRest
     rest-wrong l v = simp (le-ltb (length ps) 62 l, v)
 
-    module _ (l : 62 ≤ length ps) (v : arePlaces (slice 22 62 ps) ≡ true) where
-      pub rest-key-wrong : spelled (slice 22 30 ps) ≡ refused 5 → readRest ps h ≡ refused 5
-      unfolding readRest
-      rest-key-wrong e = simp (le-ltb (length ps) 62 l, v, e)
+    module _ (l : 62 ≤ length ps) where
+      pub rest-key-wrong : spelled (slice 22 30 ps) ≡ refused 5 → readRest ps h ≡ refusedRest ps
+      unfolding readRest refusedRest
+      rest-key-wrong e = simp (le-ltb (length ps) 62 l, e)
 
       module _ (k : ℕ) (ek : spelled (slice 22 30 ps) ≡ accepted k) where
-        pub data-wrong : spelled (slice 30 46 ps) ≡ refused 5 → readRest ps h ≡ refused 5
-        unfolding readRest
-        data-wrong e = simp (le-ltb (length ps) 62 l, v, ek, e)
+        pub data-wrong : spelled (slice 30 46 ps) ≡ refused 5 → readRest ps h ≡ refusedRest ps
+        unfolding readRest refusedRest
+        data-wrong e = simp (le-ltb (length ps) 62 l, ek, e)
 
         module _ (d : ℕ) (ed : spelled (slice 30 46 ps) ≡ accepted d) where
-          pub command-wrong : spelled (slice 46 62 ps) ≡ refused 5 → readRest ps h ≡ refused 5
-          unfolding readRest
-          command-wrong e = simp (le-ltb (length ps) 62 l, v, ek, ed, e)
+          pub command-wrong : spelled (slice 46 62 ps) ≡ refused 5 → readRest ps h ≡ refusedRest ps
+          unfolding readRest refusedRest
+          command-wrong e = simp (le-ltb (length ps) 62 l, ek, ed, e)
 
-          pub rest-read : (c : ℕ) → spelled (slice 46 62 ps) ≡ accepted c → readRest ps h ≡ ending 62 ps (extended (indexOf h) (indexOf k + 1) d c)
-          unfolding readRest
-          rest-read c ec = simp (le-ltb (length ps) 62 l, v, ek, ed, ec)
+          module _ (v : arePlaces (slice 22 62 ps) ≡ true) (c : ℕ) (ec : spelled (slice 46 62 ps) ≡ accepted c) where
+            pub rest-read : readRest ps h ≡ ending 62 ps (extended (indexOf h) (indexOf k + 1) d c)
+            unfolding readRest
+            rest-read = simp (le-ltb (length ps) 62 l, v, ek, ed, ec)
 
-          pub rest-accepted : (c : ℕ) → spelled (slice 46 62 ps) ≡ accepted c → length ps ≤ 62 → readRest ps h ≡ accepted (extended (indexOf h) (indexOf k + 1) d c)
-          rest-accepted c ec t = rest-read c ec ∙ ends ps (extended (indexOf h) (indexOf k + 1) d c) 62 t
+            pub rest-accepted : length ps ≤ 62 → readRest ps h ≡ accepted (extended (indexOf h) (indexOf k + 1) d c)
+            rest-accepted t = rest-read ∙ ends ps (extended (indexOf h) (indexOf k + 1) d c) 62 t
+
+  -- where all are places, a wrong complement is 5
+  pub rest-refused : arePlaces (slice 22 62 ps) ≡ true → refusedRest ps ≡ refused 5
+  unfolding refusedRest
+  rest-refused v = simp v

@@ -1,12 +1,12 @@
 -- A start code and pairs that are read are places, each 0 or 1, so that the readers go on. Assumes nothing.
-use mathlib.Core.Path.{_≡_, sym, ap, _∙_, subst}
-use mathlib.Core.Bool.{true, _&&_}
+use mathlib.Core.Path.{_≡_, refl, sym, ap, _∙_}
+use mathlib.Core.Bool.{Bool, true, _&&_, and-assoc}
 use mathlib.Core.List.{List, [], _∷_}
 use Prim.Native.Nat.{ℕ, zero, suc, _+_, _≤_}
 use native.Mathlib.Omega.{arith}
 use lib.Dec.{eqb, ltb}
 use lib.ListN.{length, getD}
-use lib.Seq.{slice, slice-cons}
+use lib.Seq.{slice, slice-empty, slice-cons}
 use borrow.Author.Tests.{lt-ltb, eqb-true}
 use Rattle.answer.specs.Answer.{accepted}
 use Rattle.answer.proofs.Laws.Test.{on-accepted}
@@ -38,20 +38,26 @@ start-places (a ∷ b ∷ c ∷ d ∷ l) h e =
     simp (lt-ltb a 2 (omega arith), lt-ltb b 2 (omega arith), lt-ltb c 2 (omega arith), lt-ltb d 2 (omega arith))
 
 -- one part after another
+parted : (l : List ℕ) (f d m t : ℕ) → f + d ≡ m → m ≤ t → t ≤ length l → arePlaces (slice f t l) ≡ arePlaces (slice f m l) && arePlaces (slice m t l)
+parted l f zero m t e h k =
+    let z : m ≡ f = omega arith in
+    sym
+    (ap (λ (n : ℕ). arePlaces (slice f n l) && arePlaces (slice n t l)) z
+    ∙ ap (λ (ps : List ℕ). arePlaces ps && arePlaces (slice f t l)) (slice-empty f l))
+parted l f (suc d) m t e h k =
+    let x = getD l f 0 in
+    ap arePlaces (slice-cons f t l 0 (omega arith) k)
+    ∙ ap (_&&_ (ltb x 2)) (parted l (suc f) d m t (omega arith) h k)
+    ∙ sym
+    (ap (λ (ps : List ℕ). arePlaces ps && arePlaces (slice m t l)) (slice-cons f m l 0 (omega arith) (omega arith))
+    ∙ and-assoc (ltb x 2) (arePlaces (slice (suc f) m l)) (arePlaces (slice m t l)))
+
 joined : (l : List ℕ) (f d t : ℕ) → f + d ≤ t → t ≤ length l → arePlaces (slice f (f + d) l) ≡ true → arePlaces (slice (f + d) t l) ≡ true
     → arePlaces (slice f t l) ≡ true
-joined l f zero t h k a b = let e : f + 0 ≡ f = omega arith in subst (λ (n : ℕ). arePlaces (slice n t l) ≡ true) e b
-joined l f (suc d) t h k a b =
-    let x = getD l f 0 in
-    let n : f + suc d ≡ suc f + d = omega arith in
-    let first = sym (ap arePlaces (slice-cons f (f + suc d) l 0 (omega arith) (omega arith))) ∙ a in
-    let later = joined l (suc f) d t (omega arith) k
-    (subst (λ (m : ℕ). arePlaces (slice (suc f) m l) ≡ true) n (and-right (ltb x 2) _ first))
-    (subst (λ (m : ℕ). arePlaces (slice m t l) ≡ true) n b) in
-    ap arePlaces (slice-cons f t l 0 (omega arith) k) ∙ both (ltb x 2) (arePlaces (slice (suc f) t l)) (and-left (ltb x 2) _ first) later
+joined l f d t h k a b = parted l f d (f + d) t refl h k ∙ both (arePlaces (slice f (f + d) l)) (arePlaces (slice (f + d) t l)) a b
 
 module _ (l : List ℕ) where
-  read-places : 22 ≤ length l → startsWith startCode l ≡ true → (h : ℕ) → spelled (slice 4 12 l) ≡ accepted h → (k : ℕ) → spelled (slice 12 20 l) ≡ accepted k
+  pub read-places : 22 ≤ length l → startsWith startCode l ≡ true → (h : ℕ) → spelled (slice 4 12 l) ≡ accepted h → (k : ℕ) → spelled (slice 12 20 l) ≡ accepted k
       → (d : ℕ) → spelled (slice 20 22 l) ≡ accepted d → arePlaces (slice 0 22 l) ≡ true
   read-places n s h eh k ek d ed =
       joined l 0 4 22 (omega arith) n (start-places l (omega arith) s)
@@ -62,6 +68,10 @@ module _ (l : List ℕ) where
   pub begun : 22 ≤ length l → startsWith startCode l ≡ true → (h : ℕ) → spelled (slice 4 12 l) ≡ accepted h → (k : ℕ) → spelled (slice 12 20 l) ≡ accepted k
       → (d : ℕ) → spelled (slice 20 22 l) ≡ accepted d → read l ≡ readKey l
   begun n s h eh k ek d ed = read-on l n (read-places n s h eh k ek d ed) s
+
+  -- behind 22 places, all 62 are places where the rest are
+  pub rest-alone : 62 ≤ length l → arePlaces (slice 0 22 l) ≡ true → arePlaces (slice 0 62 l) ≡ arePlaces (slice 22 62 l)
+  rest-alone n e = parted l 0 22 22 62 refl (omega arith) n ∙ ap (λ (b : Bool). b && arePlaces (slice 22 62 l)) e
 
   pub rest-places : 62 ≤ length l → (k : ℕ) → spelled (slice 22 30 l) ≡ accepted k → (d : ℕ) → spelled (slice 30 46 l) ≡ accepted d → (c : ℕ)
       → spelled (slice 46 62 l) ≡ accepted c → arePlaces (slice 22 62 l) ≡ true

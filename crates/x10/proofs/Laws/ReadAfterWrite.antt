@@ -88,7 +88,7 @@ read-extended h k d c hh hk hd hc =
     let ps : List ℕ = standard h extended1 1 ++ extension k d c in
     begun-function h extended1 1 (extension k d c) hh (omega arith) (omega arith) (omega arith)
     ∙ function-extended ps h extended1 refl
-    ∙ rest-accepted ps h (omega arith) (extension-places k d c) k (spelled-bits 4 k hk) d (spelled-bits 8 d hd) c (spelled-bits 8 c hc) (omega arith)
+    ∙ rest-accepted ps h (omega arith) k (spelled-bits 4 k hk) d (spelled-bits 8 d hd) (extension-places k d c) c (spelled-bits 8 c hc) (omega arith)
 
 -- the house and the unit of what was written
 house-back : (h k : ℕ) → houseCode h ≡ accepted k → (h < 16) × (indexOf k ≡ h) × (k < 16)

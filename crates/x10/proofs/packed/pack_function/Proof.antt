@@ -1,17 +1,15 @@
--- `pack_function` meets its contract: a function of the table is packed, all else is read anew. Assumes nothing.
+-- `pack_function` meets its contract: each way out is a check decided by its fact. Assumes nothing.
 use mathlib.Core.Path.{_≡_, sym, ap, ap₂, _∙_}
 use mathlib.Core.List.{[], _∷_}
 use Prim.Native.Nat.{ℕ}
 use native.Mathlib.Omega.{arith}
 use denote.Ref.{now}
-use Rattle.answer.specs.Answer.{Outcome, accepted, onAccepted}
+use Rattle.answer.specs.Answer.{refused, accepted}
 use Rattle.answer.specs.Packed.{packed, byte}
-use Rattle.x10.specs.Answers.{fields}
 use Rattle.x10.specs.Codes.{functionOf}
-use Rattle.x10.specs.Pattern.{Message}
 use Rattle.x10.specs.Parts.{lookupOf}
 use Rattle.x10.proofs.Laws.Codes.{found-code}
-use Rattle.x10.proofs.Laws.Pattern.{function-extended, function-accepted}
+use Rattle.x10.proofs.Laws.Pattern.{answered, goes-on, function-extended, function-unknown, function-known, function-accepted}
 use borrow.Author.Needs.{needs}
 use Rattle.x10.proofs.packed.pack_function.Statement.{statement}
 use Rattle.x10.proofs.packed.pack_function.Tie as tie
@@ -34,17 +32,24 @@ enum-told c = search needs
 enum-told-2 : tie.Need-enum-told-2
 enum-told-2 c = search needs
 
-read-anew-requires : tie.Need-read-anew-requires
-read-anew-requires c κs = search needs
-
 returns-2 : tie.Need-returns-2
-returns-2 c = search needs
-
-read-anew-requires-2 : tie.Need-read-anew-requires-2
-read-anew-requires-2 c κs = search needs
+returns-2 c =
+    let left = c .before .before .before in
+    let start = left .before .before in
+    let a = start .args in
+    let e : functionOf (a .key) ≡ refused 6 = sym (c .before .before .function-of .ensures) ∙ ap lookupOf (c .enum-told2 .given .1) in
+    sym (ap answered (start .pre .1 ∙ function-unknown (now (a .places)) (a .house) (a .key) (left .if1 .left) e))
 
 returns-3 : tie.Need-returns-3
-returns-3 c = search needs
+returns-3 c =
+    let told = c .before in
+    let left = told .before .before .before in
+    let start = left .before .before in
+    let a = start .args in
+    let ps = now (a .places) in
+    let f = told .enum-told .given .0 .0 in
+    let e : functionOf (a .key) ≡ accepted f = sym (told .before .before .function-of .ensures) ∙ ap lookupOf (told .enum-told .given .1) in
+    sym (ap answered (start .pre .1 ∙ function-known ps (a .house) (a .key) f (left .if1 .left) e ∙ goes-on ps _ 22 (c .if2 .taken)))
 
 index-of-requires : tie.Need-index-of-requires
 index-of-requires c κs = search needs
@@ -63,7 +68,7 @@ returns-4 c =
     c .pack-5-bytes .ensures
     ∙ ap₂ (λ (i k : ℕ). packed (accepted (byte 1 ∷ byte i ∷ byte k ∷ byte 0 ∷ byte 0 ∷ []))) (c .before .index-of .ensures) (sym (found-code (a .key) f e))
     ∙ sym
-    (ap (λ (o : Outcome Message). packed (onAccepted fields o))
+    (ap answered
     (start .pre .1 ∙ function-accepted (now (a .places)) (a .house) (a .key) f (left .if1 .left) e (omega (arith, c .before .before .if2 .left))))
 
 pub pack-function-spec : {M : Type 1} → statement M
@@ -75,9 +80,7 @@ pack-function-spec =
     function-of-requires
     enum-told
     enum-told-2
-    read-anew-requires
     returns-2
-    read-anew-requires-2
     returns-3
     index-of-requires
     pack-5-bytes-requires

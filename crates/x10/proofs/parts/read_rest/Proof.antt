@@ -13,7 +13,7 @@ use Rattle.x10.specs.Pattern.{extended}
 use Rattle.x10.specs.Parts.{spellingOf}
 use Rattle.x10.proofs.Laws.Bits.{part-back}
 use Rattle.x10.proofs.Laws.Codes.{index-small}
-use Rattle.x10.proofs.Laws.Pattern.{rest-short, rest-wrong, rest-key-wrong, data-wrong, command-wrong, rest-read, rest-accepted, goes-on}
+use Rattle.x10.proofs.Laws.Pattern.{rest-short, rest-wrong, rest-refused, rest-key-wrong, data-wrong, command-wrong, rest-read, rest-accepted, goes-on}
 use borrow.Author.Tests.{not-true, not-false}
 use borrow.Author.Needs.{needs}
 use Rattle.x10.proofs.parts.read_rest.Statement.{statement}
@@ -73,7 +73,8 @@ returns-3 c =
     let w = c .before .before .before in
     let a = w .before .before .before .before .args in
     sym
-    (rest-key-wrong (now (a .places)) (a .house) (w .before .before .if1 .left) (sym (w .before .are-places .ensures) ∙ not-false _ (w .if2 .left)) (sym (c .before .before .spelled .ensures) ∙ ap spellingOf (c .enum-told .given .1)))
+    (rest-key-wrong (now (a .places)) (a .house) (w .before .before .if1 .left) (sym (c .before .before .spelled .ensures) ∙ ap spellingOf (c .enum-told .given .1))
+    ∙ rest-refused (now (a .places)) (sym (w .before .are-places .ensures) ∙ not-false _ (w .if2 .left)))
 
 spelled-requires-2 : tie.Need-spelled-requires-2
 spelled-requires-2 c κs = search needs
@@ -88,7 +89,8 @@ returns-4 : tie.Need-returns-4
 returns-4 c =
     let w = c .before .before .before in
     sym
-    (data-wrong (places w) _ (long w) (all-places w) _ (key-read w) (sym (c .before .before .spelled2 .ensures) ∙ ap spellingOf (c .enum-told2 .given .1)))
+    (data-wrong (places w) _ (long w) _ (key-read w) (sym (c .before .before .spelled2 .ensures) ∙ ap spellingOf (c .enum-told2 .given .1))
+    ∙ rest-refused (places w) (all-places w))
 
 spelled-requires-3 : tie.Need-spelled-requires-3
 spelled-requires-3 c κs = search needs
@@ -104,14 +106,15 @@ returns-5 c =
     let w = c .before .before .before in
     let v = first w in
     sym
-    (command-wrong (places v) _ (long v) (all-places v) _ (key-read v) _ (data-read w) (sym (c .before .before .spelled3 .ensures) ∙ ap spellingOf (c .enum-told3 .given .1)))
+    (command-wrong (places v) _ (long v) _ (key-read v) _ (data-read w) (sym (c .before .before .spelled3 .ensures) ∙ ap spellingOf (c .enum-told3 .given .1))
+    ∙ rest-refused (places v) (all-places v))
 
 returns-6 : tie.Need-returns-6
 returns-6 c =
     let w = c .before in
     let v = first (second w) in
     sym
-    (rest-read (places v) _ (long v) (all-places v) _ (key-read v) _ (data-read (second w)) _ (command-read w)
+    (rest-read (places v) _ (long v) _ (key-read v) _ (data-read (second w)) (all-places v) _ (command-read w)
     ∙ goes-on (places v) _ 62 (c .if3 .taken))
 
 index-of-requires : tie.Need-index-of-requires
@@ -131,7 +134,7 @@ returns-7 c =
     let m = w .before .command-bits .given .0 .0 in
     ap₂ (λ (i j : ℕ). accepted (extended i (j + 1) d m)) (c .before .index-of .ensures) (c .index-of2 .ensures)
     ∙ sym
-    (rest-accepted (places v) _ (long v) (all-places v) _ (key-read v) d (data-read (second w)) m (command-read w) (omega (arith, c .before .before .if3 .left)))
+    (rest-accepted (places v) _ (long v) _ (key-read v) d (data-read (second w)) (all-places v) m (command-read w) (omega (arith, c .before .before .if3 .left)))
 
 pub read-rest-spec : {M : Type 1} → statement M
 read-rest-spec =
