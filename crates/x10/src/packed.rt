@@ -29,7 +29,7 @@ ghost use Rattle.x10.specs.Answers.{fields};
 ghost use Rattle.x10.specs.Pattern.{read, readFunction, readRest};
 ghost use Rattle.x10.specs.Parts.{refusedKey, refusedRest};
 
-// Refuses 22 places whose start code, or a complement, is wrong: 8, 2, then 5.
+// Refuses the first 22 places where the start code or a complement is wrong: 8, 2, then 5.
 pub(crate) fn refuse_key(places: &[u8]) -> u64
     requires { ⌜ 22 ≤ length (now places) ⌝ }
     ensures { λ n. ⌜ n ≡ packed (onAccepted fields (refusedKey (now (places .entry)))) ⌝ }
@@ -43,8 +43,9 @@ pub(crate) fn refuse_key(places: &[u8]) -> u64
     5
 }
 
-// Refuses the rest of an Extended 1 with a wrong complement: 8, then 5. The 22 places before it are known to be 0 or 1; all 62 are looked at
-// because so long a function stays a call, and then no place is kept for it while a pattern is read.
+// Refuses the rest of an Extended 1 where a complement is wrong: 8, then 5. The 22 places before it are known to be 0 or 1. All 62 are looked
+// at: over 40 the compiler puts this function into its caller, which then keeps every place on the stack. Lent anew, the slice is passed in
+// registers.
 fn refuse_rest(places: &[u8]) -> u64
     requires { ⌜ (62 ≤ length (now places)) × (arePlaces (slice 0 22 (now places)) ≡ true) ⌝ }
     ensures { λ n. ⌜ n ≡ packed (onAccepted fields (refusedRest (now (places .entry)))) ⌝ }

@@ -37,7 +37,7 @@ start-places (a ∷ b ∷ c ∷ d ∷ l) h e =
     let ed : d ≡ 0 = eqb-true d 0 (and-left (eqb d 0) _ e3) in
     simp (lt-ltb a 2 (omega arith), lt-ltb b 2 (omega arith), lt-ltb c 2 (omega arith), lt-ltb d 2 (omega arith))
 
--- one part after another
+-- the places of a slice are those of its two parts
 parted : (l : List ℕ) (f d m t : ℕ) → f + d ≡ m → m ≤ t → t ≤ length l → arePlaces (slice f t l) ≡ arePlaces (slice f m l) && arePlaces (slice m t l)
 parted l f zero m t e h k =
     let z : m ≡ f = omega arith in
