@@ -34,7 +34,10 @@ typedef uint64_t side(size_t from, size_t past);
     SIDE(row##_plain, plain, __VA_ARGS__)
 
 /* A row of `calls` different calls; what they write is in the array `lent`. */
-#define ROW(name, row, calls, lent) bench_row(name, row##_ours, row##_plain, calls, lent, sizeof lent)
+#define ROW(name, row, calls, lent) bench_row(name, row##_ours, row##_plain, calls, lent, NULL, sizeof lent)
+
+/* The same, where `lent` holds what is in the array `start` before the first call of a side, and before each one compared. */
+#define ROW_FROM(name, row, calls, lent, start) bench_row(name, row##_ours, row##_plain, calls, lent, start, sizeof lent)
 
 static volatile uint64_t bench_sink;
 
@@ -53,31 +56,43 @@ PLAIN void bench_count(side *run, size_t calls)
     bench_sink += run(0, calls);
 }
 
-static inline void bench_compare(const char *name, side *ours, side *plain, size_t calls, void *lent, size_t size)
+/* Makes what is lent as `start` has it, or all one byte. */
+static inline void bench_fill(void *lent, const void *start, int byte, size_t size)
+{
+    if (start) {
+        memcpy(lent, start, size);
+    } else {
+        memset(lent, byte, size);
+    }
+}
+
+static inline void bench_compare(const char *name, side *ours, side *plain, size_t calls, void *lent, const void *start, size_t size)
 {
     uint8_t *left = malloc(size);
     for (size_t i = 0; i < calls; i++) {
-        memset(lent, 0xA5, size);
+        bench_fill(lent, start, 0xA5, size);
         uint64_t answer = ours(i, i + 1);
         memcpy(left, lent, size);
-        memset(lent, 0xA5, size);
+        bench_fill(lent, start, 0xA5, size);
         if (answer != plain(i, i + 1) || memcmp(left, lent, size) != 0) {
             fprintf(stderr, "%s: the two sides differ at call %zu\n", name, i);
             exit(1);
         }
     }
     free(left);
-    memset(lent, 0, size);
 }
 
-static inline void bench_row(const char *name, side *ours, side *plain, size_t calls, void *lent, size_t size)
+static inline void bench_row(const char *name, side *ours, side *plain, size_t calls, void *lent, const void *start, size_t size)
 {
     if (getenv("BENCH_COUNT")) {
+        bench_fill(lent, start, 0, size);
         bench_count(ours, calls);
+        bench_fill(lent, start, 0, size);
         bench_count(plain, calls);
         return;
     }
-    bench_compare(name, ours, plain, calls, lent, size);
+    bench_compare(name, ours, plain, calls, lent, start, size);
+    bench_fill(lent, start, 0, size);
     size_t times = 1;
     while (bench_round(ours, times) < ROUND) {
         times *= 2;

@@ -1,4 +1,4 @@
-/* Omnistat2 messages, read and written at both ends. */
+/* Omnistat2 messages, read and written at both ends, and texts. */
 #include "bench.h"
 #include "gateway.h"
 #include "omnistat.h"
@@ -8,8 +8,18 @@ static inline uint64_t pack(unsigned type, unsigned address, unsigned start, siz
     return (uint64_t)type << 8 | (uint64_t)address << 16 | (uint64_t)start << 24 | (uint64_t)count << 32;
 }
 
+static inline uint64_t pack_text(unsigned address, const uint8_t *bytes, size_t count)
+{
+    return pack(bytes[1] & 15, address, bytes[2], count) | (uint64_t)(bytes[1] >> 4) << 40;
+}
+
 PLAIN uint64_t plain_at_thermostat(const uint8_t *bytes, size_t len)
 {
+    if (is_text(1, bytes, len)) {
+        size_t count;
+        unsigned refusal = text_refusal(is_request(bytes[0]), bytes, len, &count);
+        return refusal ? refusal : pack_text(bytes[0], bytes, count);
+    }
     unsigned refusal = read_refusal(bytes, len);
     if (refusal) return refusal;
     unsigned type = bytes[1] & 15;
@@ -20,6 +30,11 @@ PLAIN uint64_t plain_at_thermostat(const uint8_t *bytes, size_t len)
 PLAIN uint64_t plain_at_host(const uint8_t *bytes, size_t len)
 {
     if (len == 0) return 1;
+    if (is_text(2, bytes, len)) {
+        size_t count;
+        unsigned refusal = text_refusal(bytes[0] > 0x80, bytes, len, &count);
+        return refusal ? refusal : pack_text(bytes[0] - 0x80u, bytes, count);
+    }
     unsigned refusal = summed_refusal(bytes[0] > 0x80, bytes, len);
     if (refusal) return refusal;
     unsigned type = bytes[1] & 15, n = bytes[1] >> 4, number = bytes[0] - 0x80u;
@@ -46,13 +61,38 @@ PLAIN uint64_t plain_to_host(uint8_t number, uint8_t type, const uint8_t *data, 
     return enclose(out, number + 0x80u, type, n, copy_summed(out + 2, data, n));
 }
 
+static inline int text_is_allowed(unsigned half, unsigned start, const uint8_t *text, size_t n)
+{
+    return half < 16 && is_text_register(start) && n <= TEXT_MAX && are_characters(text, n);
+}
+
+PLAIN uint64_t plain_text_to_thermostat(uint8_t address, uint8_t half, uint8_t start, const uint8_t *text, size_t n, uint8_t *out,
+                                        size_t room)
+{
+    if (!is_request(address) || !text_is_allowed(half, start, text, n)) return 8;
+    if (room < n + 5) return 9;
+    return put_text(out, address, half << 4 | 1u, start, text, n);
+}
+
+PLAIN uint64_t plain_text_to_host(uint8_t number, uint8_t half, uint8_t start, const uint8_t *text, size_t n, uint8_t *out,
+                                  size_t room)
+{
+    if (number < 1 || number > 127 || !text_is_allowed(half, start, text, n)) return 8;
+    if (room < n + 5) return 9;
+    return put_text(out, number + 0x80u, half << 4 | 2u, start, text, n);
+}
+
 enum { MESSAGES = 64 };
 
 static struct message {
     uint8_t address, type, data[15], bytes[18];
     size_t count, len;
 } requests[MESSAGES], replies[MESSAGES];
-static uint8_t out[18];
+static struct text {
+    uint8_t address, half, start, text[TEXT_MAX], set[TEXT_MAX + 5], data[TEXT_MAX + 5];
+    size_t count;
+} texts[MESSAGES];
+static uint8_t out[TEXT_MAX + 5];
 
 #define READ(list) list[i % MESSAGES].bytes, list[i % MESSAGES].len
 #define WRITE(list) list[i % MESSAGES].address, list[i % MESSAGES].type, list[i % MESSAGES].data, list[i % MESSAGES].count, out, sizeof out
@@ -61,6 +101,15 @@ SIDES(at_thermostat, omnistat_read_at_thermostat, plain_at_thermostat, READ(requ
 SIDES(at_host, omnistat_read_at_host, plain_at_host, READ(replies))
 SIDES(to_thermostat, omnistat_write_to_thermostat, plain_to_thermostat, WRITE(requests))
 SIDES(to_host, omnistat_write_to_host, plain_to_host, WRITE(replies))
+
+#define TEXT texts[i % MESSAGES]
+#define READ_TEXT(bytes) TEXT.bytes, TEXT.count + 5
+#define WRITE_TEXT TEXT.address, TEXT.half, TEXT.start, TEXT.text, TEXT.count, out, sizeof out
+
+SIDES(text_at_thermostat, omnistat_read_at_thermostat, plain_at_thermostat, READ_TEXT(set))
+SIDES(text_at_host, omnistat_read_at_host, plain_at_host, READ_TEXT(data))
+SIDES(text_to_thermostat, omnistat_write_text_to_thermostat, plain_text_to_thermostat, WRITE_TEXT)
+SIDES(text_to_host, omnistat_write_text_to_host, plain_text_to_host, WRITE_TEXT)
 
 /* A mix of messages: groups, polls or acknowledges, and runs of 1 to 14 values. */
 static void prepare(void)
@@ -83,12 +132,34 @@ static void prepare(void)
     }
 }
 
+/* Texts of 0 to 60 characters. */
+static void prepare_texts(void)
+{
+    for (unsigned i = 0; i < MESSAGES; i++) {
+        struct text *t = &texts[i];
+        t->address = (uint8_t)(i + 1);
+        t->half = i % 16;
+        t->start = (uint8_t)(172 + i % 10);
+        t->count = i * 23 % (TEXT_MAX + 1);
+        for (unsigned k = 0; k < TEXT_MAX; k++) {
+            t->text[k] = (uint8_t)(0x20 + (i * 5 + k * 7) % 95);
+        }
+        omnistat_write_text_to_thermostat(t->address, t->half, t->start, t->text, t->count, t->set, sizeof t->set);
+        omnistat_write_text_to_host(t->address, t->half, t->start, t->text, t->count, t->data, sizeof t->data);
+    }
+}
+
 int main(void)
 {
     prepare();
+    prepare_texts();
     ROW("omnistat_read_at_thermostat", at_thermostat, MESSAGES, out);
     ROW("omnistat_read_at_host", at_host, MESSAGES, out);
     ROW("omnistat_write_to_thermostat", to_thermostat, MESSAGES, out);
     ROW("omnistat_write_to_host", to_host, MESSAGES, out);
+    ROW("omnistat_read_at_thermostat, texts", text_at_thermostat, MESSAGES, out);
+    ROW("omnistat_read_at_host, texts", text_at_host, MESSAGES, out);
+    ROW("omnistat_write_text_to_thermostat", text_to_thermostat, MESSAGES, out);
+    ROW("omnistat_write_text_to_host", text_to_host, MESSAGES, out);
     return 0;
 }

@@ -9,7 +9,7 @@
 enum { SIZE = 1 << 18, PAINT = 0xA7 };
 
 static uint8_t *stack;
-static uint8_t input[4096], map[256], out[1 << 16];
+static uint8_t input[4096], map[256], texts[THERMOSTAT_TEXTS], out[1 << 16];
 static uint8_t frame[69], places[62];
 static size_t frame_len;
 static volatile uint64_t sink;
@@ -20,8 +20,15 @@ static void message_read(void) { sink = omnilink_message_read(frame, frame_len);
 static void message_write(void) { sink = omnilink_message_write(0x16, input, 64, out, sizeof out); }
 static void zone(void) { sink = omnilink_zone(frame, frame_len, 31); }
 static void omnistat_write(void) { sink = omnistat_write_to_thermostat(1, 1, (const uint8_t[]){59, 80}, 2, out, sizeof out); }
-static void step(void) { sink = thermostat_step(1, map, sizeof map, (const uint8_t[]){0x01, 0x21, 0x3B, 0x50, 0xAD}, 5, out, sizeof out); }
-static void group(void) { sink = thermostat_step(1, map, sizeof map, (const uint8_t[]){0x01, 0x04, 0x05}, 3, out, sizeof out); }
+static void write_text(void) { sink = omnistat_write_text_to_thermostat(1, 0, 175, (const uint8_t *)"low", 3, out, sizeof out); }
+static void take(const uint8_t *bytes, size_t len)
+{
+    sink = thermostat_step(1, map, sizeof map, texts, sizeof texts, bytes, len, out, sizeof out);
+}
+static void step(void) { take((const uint8_t[]){0x01, 0x21, 0x3B, 0x50, 0xAD}, 5); }
+static void group(void) { take((const uint8_t[]){0x01, 0x04, 0x05}, 3); }
+static void text_set(void) { take((const uint8_t[]){0x01, 0x01, 0xAF, 'H', 'I', 0x03, 0x45}, 7); }
+static void text_poll(void) { take((const uint8_t[]){0x01, 0x20, 0xAF, 0x01, 0xD1}, 5); }
 static void setpoints(void) { sink = setpoints_to_bytes(setpoints_from_bytes(120, 112)); }
 static void x10(void) { sink = x10_read(places, sizeof places); }
 static void x10_write(void) { sink = x10_write_extended(0, 1, 0x55, 0xAA, places, sizeof places); }
@@ -70,7 +77,9 @@ int main(void)
         {"omnilink_frame_read", frame_read}, {"omnilink_frame_write", frame_write},
         {"omnilink_message_read", message_read}, {"omnilink_message_write", message_write},
         {"omnilink_zone", zone}, {"omnistat_write_to_thermostat", omnistat_write},
+        {"omnistat_write_text_to_thermostat", write_text},
         {"thermostat_step, a set", step}, {"thermostat_step, group 3", group},
+        {"thermostat_step, a text set", text_set}, {"thermostat_step, a text poll", text_poll},
         {"setpoints_to_bytes", setpoints}, {"x10_write_extended", x10_write},
         {"x10_read", x10}, {"capture_listing, 4,096 bytes of frames", listing},
     };

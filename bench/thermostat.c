@@ -1,4 +1,4 @@
-/* Steps of the model thermostat, and setpoint pairs. */
+/* Steps of the model thermostat, with its registers and its texts, and setpoint pairs. */
 #include "bench.h"
 #include "gateway.h"
 #include "omnistat.h"
@@ -65,10 +65,36 @@ static inline uint64_t report_group(const uint8_t *map, unsigned first, unsigned
     return enclose(out, first, group + 3, sizes[group], sum);
 }
 
-PLAIN uint64_t plain_step(uint8_t own, uint8_t *map, size_t map_len, const uint8_t *bytes, size_t len, uint8_t *out, size_t room)
+enum { HELD = 1 + TEXT_MAX };
+
+static inline int are_texts(const uint8_t *texts)
 {
-    if (room < 18 || map_len != 256) return 9;
-    if (own < 1 || own > 127) return 8;
+    for (size_t i = 0; i < THERMOSTAT_TEXTS; i += HELD) {
+        if (texts[i] > TEXT_MAX || !are_characters(texts + i + 1, texts[i])) return 0;
+    }
+    return 1;
+}
+
+static inline uint8_t *held(uint8_t *texts, unsigned start) { return texts + (start - 172) * HELD; }
+
+static inline uint64_t set_text(uint8_t own, uint8_t *texts, const uint8_t *bytes, size_t len, uint8_t *out)
+{
+    size_t count;
+    unsigned first = bytes[0], refusal = text_refusal(is_request(first), bytes, len, &count);
+    if (refusal) return refusal;
+    if (first != 0 && first != own && first != 0xFA) return 0;
+    uint8_t *text = held(texts, bytes[2]);
+    text[0] = (uint8_t)count;
+    memcpy(text + 1, bytes + 3, count);
+    return first == 0 ? 0 : enclose(out, own + 0x80u, 0, 0, 0);
+}
+
+PLAIN uint64_t plain_step(uint8_t own, uint8_t *map, size_t map_len, uint8_t *texts, size_t texts_len, const uint8_t *bytes,
+                          size_t len, uint8_t *out, size_t room)
+{
+    if (room < 65 || map_len != 256 || texts_len != THERMOSTAT_TEXTS) return 9;
+    if (own < 1 || own > 127 || !are_texts(texts)) return 8;
+    if (is_text(1, bytes, len)) return set_text(own, texts, bytes, len, out);
     unsigned refusal = read_refusal(bytes, len);
     if (refusal) return refusal;
     unsigned first = bytes[0], type = bytes[1] & 15, reply = own + 0x80u;
@@ -78,6 +104,10 @@ PLAIN uint64_t plain_step(uint8_t own, uint8_t *map, size_t map_len, const uint8
         return first == 0 ? 0 : enclose(out, reply, !taken, 0, 0);
     }
     if (first == 0) return 0;
+    if (type == 0 && is_text_register(bytes[2])) {
+        const uint8_t *text = held(texts, bytes[2]);
+        return put_text(out, reply, 2, bytes[2], text + 1, text[0]);
+    }
     return type == 0 ? report(map, reply, bytes[2], bytes[3], out) : report_group(map, reply, type - 2, out);
 }
 
@@ -93,16 +123,16 @@ PLAIN uint64_t plain_to_bytes(struct setpoints p)
 enum { MESSAGES = 64 };
 
 static struct message {
-    uint8_t bytes[18];
+    uint8_t bytes[TEXT_MAX + 5];
     size_t len;
 } messages[MESSAGES];
 static struct {
-    uint8_t map[256], out[18];
-} lent[1];
+    uint8_t map[256], texts[THERMOSTAT_TEXTS], out[TEXT_MAX + 5];
+} lent[1], start[1];    /* the map and the texts that a row starts with */
 static float degrees[256];
 
-SIDES(step, thermostat_step, plain_step, 1, lent->map, sizeof lent->map, messages[i % MESSAGES].bytes, messages[i % MESSAGES].len, lent->out,
-      sizeof lent->out)
+SIDES(step, thermostat_step, plain_step, 1, lent->map, sizeof lent->map, lent->texts, sizeof lent->texts, messages[i % MESSAGES].bytes,
+      messages[i % MESSAGES].len, lent->out, sizeof lent->out)
 SIDES(pair, setpoints_to_bytes, plain_to_bytes, (struct setpoints){degrees[i % 256], degrees[i * 7 % 256]})
 
 static void row(const char *name, uint8_t type, size_t n, const uint8_t data[MESSAGES][15])
@@ -110,17 +140,40 @@ static void row(const char *name, uint8_t type, size_t n, const uint8_t data[MES
     for (unsigned i = 0; i < MESSAGES; i++) {
         messages[i].len = omnistat_write_to_thermostat(1, type, data[i], n, messages[i].bytes, sizeof messages[i].bytes) >> 8;
     }
-    ROW(name, step, MESSAGES, lent);
+    ROW_FROM(name, step, MESSAGES, lent, start);
+}
+
+/* Ten texts of the given count of characters, or of 0 to 60 for a negative one. */
+static void hold_texts(int count)
+{
+    for (size_t i = 0; i < THERMOSTAT_TEXTS; i++) {
+        start->texts[i] = (uint8_t)(i % HELD != 0 ? 0x20 + i % 95 : count < 0 ? i / HELD * 20 % HELD : (size_t)count);
+    }
+}
+
+/* Sets of texts of 0 to 60 characters. */
+static void text_row(const char *name)
+{
+    uint8_t text[TEXT_MAX];
+    for (unsigned i = 0; i < MESSAGES; i++) {
+        memset(text, (int)(' ' + i), sizeof text);
+        messages[i].len = omnistat_write_text_to_thermostat(1, 0, (uint8_t)(172 + i % 10), text, i * 23 % HELD, messages[i].bytes,
+                                                            sizeof messages[i].bytes) >> 8;
+    }
+    ROW_FROM(name, step, MESSAGES, lent, start);
 }
 
 int main(void)
 {
-    uint8_t one[MESSAGES][15], refused[MESSAGES][15], fourteen[MESSAGES][15], poll[MESSAGES][15];
+    uint8_t one[MESSAGES][15], refused[MESSAGES][15], fourteen[MESSAGES][15], poll[MESSAGES][15], text_poll[MESSAGES][15];
     fill_rules();
+    memset(start, 0xA5, sizeof start);
+    hold_texts(0);
     for (unsigned i = 0; i < MESSAGES; i++) {
         memcpy(one[i], (const uint8_t[]){(uint8_t)(59 + i % 2), (uint8_t)(51 + i % 40)}, 2);
         memcpy(refused[i], (const uint8_t[]){(uint8_t)(59 + i % 2), (uint8_t)(92 + i)}, 2);
         memcpy(poll[i], (const uint8_t[]){(uint8_t)(18 + i % 36), 14}, 2);
+        memcpy(text_poll[i], (const uint8_t[]){(uint8_t)(172 + i % 10), 1}, 2);
         memset(fourteen[i], (int)i, 15);
         fourteen[i][0] = (uint8_t)(18 + i % 26);
     }
@@ -132,6 +185,11 @@ int main(void)
     row("thermostat_step, set of 1, refused", 1, 2, refused);
     row("thermostat_step, poll of 14", 0, 2, poll);
     row("thermostat_step, poll of group 3", 4, 0, poll);
+    hold_texts(-1);
+    text_row("thermostat_step, text set");
+    row("thermostat_step, text poll", 0, 2, text_poll);
+    hold_texts(TEXT_MAX);
+    row("thermostat_step, set of 1, ten texts of 60", 1, 2, one);
     ROW("setpoints_to_bytes", pair, 256, lent);
     return 0;
 }

@@ -5,7 +5,8 @@
        gateway                                      the demonstration
 
    In the demonstration the lines are pseudo-terminals; a child process at each plays the device and damages bytes by a
-   fixed counter, so that each run prints the same. Only the demonstration changes setpoints. */
+   fixed counter, so that each run prints the same. Only the demonstration changes setpoints, and shows a text on the
+   thermostat's screen and reads it back. */
 #define _XOPEN_SOURCE 700
 #include "gateway.h"
 #include <errno.h>
@@ -21,11 +22,11 @@
 #include <unistd.h>
 
 enum { ADDRESS = 1, ROUNDS = 5, TRIES = 3, FIRST_ZONE = 1, LAST_ZONE = 3 };
-enum { OMNISTAT_MAX = 18, FRAME_MAX = 69 };          /* the longest message and the longest frame, in bytes */
+enum { OMNISTAT_MAX = 65, FRAME_MAX = 69 };          /* the longest message, a text, and the longest frame, in bytes */
 enum { BABBLE = 2048 };                              /* a line that never falls quiet is left after so many bytes */
 enum { POLL = 0, SET = 1 };                          /* Omnistat2 types at the thermostat */
 enum { ACKNOWLEDGE = 0, NEGATIVE = 1, DATA = 2 };    /* and at the host */
-enum { COOL = 59, HEAT = 60, TEMPERATURE = 64, COST = 170 };
+enum { COOL = 59, HEAT = 60, TEMPERATURE = 64, COST = 170, ENERGY_TEXT = 175 };
 enum { ZONE_REQUEST = 0x15, ZONES = 0x16, LOGIN = 0x20, EVENT_REQUEST = 0x22, EVENTS = 0x23 };
 
 static const char *const REASONS[] = {
@@ -135,11 +136,10 @@ static void await_quiet(const struct line *line)
     }
 }
 
-/* Sends a message until its reply is accepted, TRIES times at most. Answers as omnistat_read_at_host does. */
-static uint64_t ask_thermostat(const struct line *line, uint8_t type, const uint8_t *data, size_t len, uint8_t *reply)
+/* Sends a message, as a writer left and answered it, until its reply is accepted, TRIES times at most. Answers as
+   omnistat_read_at_host does. */
+static uint64_t ask(const struct line *line, const uint8_t *message, uint64_t written, uint8_t *reply)
 {
-    uint8_t message[OMNISTAT_MAX];
-    uint64_t written = omnistat_write_to_thermostat(ADDRESS, type, data, len, message, sizeof message);
     uint64_t answer = written;
     for (int i = 0; i < TRIES && accepted("message to thermostat", ADDRESS, written); i++) {
         size_t got;
@@ -154,6 +154,22 @@ static uint64_t ask_thermostat(const struct line *line, uint8_t type, const uint
         answer = GATEWAY_SHORT;    /* a reply of another thermostat is none */
     }
     return answer;
+}
+
+static uint64_t ask_thermostat(const struct line *line, uint8_t type, const uint8_t *data, size_t len, uint8_t *reply)
+{
+    uint8_t message[OMNISTAT_MAX];
+    uint64_t written = omnistat_write_to_thermostat(ADDRESS, type, data, len, message, sizeof message);
+    return ask(line, message, written, reply);
+}
+
+/* Prints what a thermostat answered to a set. */
+static void print_set(const char *what, uint64_t answer)
+{
+    static const char *const replies[] = {[ACKNOWLEDGE] = "acknowledged", [NEGATIVE] = "negative reply"};
+    if (gateway_number(answer) == GATEWAY_ACCEPTED) {
+        printf("  %s: %s\n", what, gateway_byte(answer, 0) <= NEGATIVE ? replies[gateway_byte(answer, 0)] : "another reply");
+    }
 }
 
 /* Whether the thermostat gave the values of count registers from start on. */
@@ -183,16 +199,28 @@ static void show_setpoints(const struct line *line)
 
 static void set_setpoints(const struct line *line, struct setpoints pair)
 {
-    static const char *const replies[] = {[ACKNOWLEDGE] = "acknowledged", [NEGATIVE] = "negative reply"};
     uint8_t reply[OMNISTAT_MAX];
     uint64_t bytes = setpoints_to_bytes(pair);
     printf("  set cool %.2f C, heat %.2f C\n", (double)pair.cool, (double)pair.heat);
     if (accepted("setpoints to thermostat", ADDRESS, bytes)) {
         const uint8_t data[] = {COOL, gateway_byte(bytes, 0), gateway_byte(bytes, 1)};
-        uint64_t answer = ask_thermostat(line, SET, data, sizeof data, reply);
-        if (gateway_number(answer) == GATEWAY_ACCEPTED) {
-            printf("  set: %s\n", gateway_byte(answer, 0) <= NEGATIVE ? replies[gateway_byte(answer, 0)] : "another reply");
-        }
+        print_set("set", ask_thermostat(line, SET, data, sizeof data, reply));
+    }
+}
+
+/* Shows a text on the thermostat's display, and reads back what it shows. */
+static void show_text(const struct line *line, const char *text)
+{
+    uint8_t message[OMNISTAT_MAX], reply[OMNISTAT_MAX];
+    uint64_t written = omnistat_write_text_to_thermostat(ADDRESS, 0, ENERGY_TEXT, (const uint8_t *)text, strlen(text),
+                                                         message, sizeof message);
+    printf("  show \"%s\"\n", text);
+    print_set("text", ask(line, message, written, reply));
+    uint64_t answer = ask_thermostat(line, POLL, (const uint8_t[]){ENERGY_TEXT, 1}, 2, reply);
+    if (gateway_number(answer) == GATEWAY_ACCEPTED && gateway_byte(answer, 0) == DATA && gateway_byte(answer, 2) == ENERGY_TEXT) {
+        printf("  shown: \"%.*s\"\n", (int)gateway_byte(answer, 3), (const char *)reply + 3);
+    } else {
+        printf("  no text of register %u\n", (unsigned)ENERGY_TEXT);
     }
 }
 
@@ -341,11 +369,12 @@ static void log_in(const struct line *line, struct stream *s, const char *code)
 
 /* ---- the demonstration: the devices at the other ends of the lines, each until the gateway closes its line */
 
-/* The model thermostat, in a cold store. Every third message finds another cost. */
+/* The model thermostat, in a cold store, with nothing on its display. Every third message finds another cost. */
 static void play_thermostat(int fd)
 {
     static const uint16_t costs[] = {34567, 9999, 9999, 12345, 65535, 65025};
-    uint8_t map[256] = {[COOL] = 89, [HEAT] = 82, [TEMPERATURE] = 87}, bytes[OMNISTAT_MAX], reply[OMNISTAT_MAX] = {0};
+    uint8_t map[256] = {[COOL] = 89, [HEAT] = 82, [TEMPERATURE] = 87}, texts[THERMOSTAT_TEXTS] = {0};
+    uint8_t bytes[OMNISTAT_MAX], reply[OMNISTAT_MAX] = {0};
     size_t len = 0;
     ssize_t n;
     for (unsigned messages = 1; (n = read(fd, bytes + len, sizeof bytes - len)) > 0;) {
@@ -357,7 +386,8 @@ static void play_thermostat(int fd)
         map[COST] = (uint8_t)(cost >> 8);
         map[COST + 1] = (uint8_t)cost;
         bytes[2] ^= messages == 10 ? 0x20 : 0;    /* damaged on the way here: refused, and nothing is sent */
-        size_t count = gateway_value(thermostat_step(ADDRESS, map, sizeof map, bytes, len, reply, sizeof reply));
+        uint64_t step = thermostat_step(ADDRESS, map, sizeof map, texts, sizeof texts, bytes, len, reply, sizeof reply);
+        size_t count = gateway_value(step);
         reply[2] ^= messages == 4 ? 0x20 : 0;     /* damaged on the way back */
         send_all(fd, reply, messages == 7 ? count - 1 : count);    /* a byte lost */
         messages++;
@@ -420,6 +450,7 @@ static int start_device(void (*play)(int fd))
 static void run(const struct line *thermostat, const struct line *controller, const char *code, bool demonstration)
 {
     static const struct setpoints wishes[ROUNDS] = {[1] = {5.5f, 2.0f}, [2] = {22.0f, 2.0f}, [3] = {5.25f, 2.0f}};
+    static const char *const notices[ROUNDS] = {[4] = "power low"};
     static const uint8_t zones[] = {FIRST_ZONE, LAST_ZONE};
     struct tally tally = {0};
     struct stream stream = {.len = 0};
@@ -433,6 +464,9 @@ static void run(const struct line *thermostat, const struct line *controller, co
         add_cost(thermostat, &tally);
         if (demonstration && wishes[round].cool > 0) {
             set_setpoints(thermostat, wishes[round]);
+        }
+        if (demonstration && notices[round] != NULL) {
+            show_text(thermostat, notices[round]);
         }
         if (round % 2 == 0) {
             ask_controller(controller, &stream, EVENT_REQUEST, NULL, 0);

@@ -7,8 +7,8 @@
    and answer their value itself.
 
    A buffer is passed as a pointer and a length; a null pointer with length 0 is an empty buffer. What a call writes to (out, a
-   register map, a tally) overlaps nothing else that the same call is lent: neither what it reads nor what else it writes to.
-   A writer changes the bytes that it counts as written; the bytes of out behind them stay as they were. */
+   register map, a text store, a tally) overlaps nothing else that the same call is lent: neither what it reads nor what else
+   it writes to. A writer changes the bytes that it counts as written; the bytes of out behind them stay as they were. */
 #ifndef GATEWAY_H
 #define GATEWAY_H
 
@@ -22,15 +22,17 @@ extern "C" {
 /* The answer numbers. */
 enum gateway_answer {
     GATEWAY_ACCEPTED = 0,
-    GATEWAY_SHORT = 1,        /* fewer bytes or places than the frame needs */
+    GATEWAY_SHORT = 1,        /* fewer bytes or places than the frame needs; a text that may still get its 03 */
     GATEWAY_START = 2,        /* wrong start byte, start code or direction */
     GATEWAY_LENGTH = 3,       /* length byte 00 or above 41 hex, over 64 data bytes to write, or a capture above 4,096 bytes */
     GATEWAY_LONG = 4,         /* more bytes or places than the frame */
     GATEWAY_CHECKSUM = 5,     /* CRC, sum or complement is wrong */
     GATEWAY_UNKNOWN = 6,      /* unknown type or key */
     GATEWAY_TYPE_LENGTH = 7,  /* length wrong for the type */
-    GATEWAY_FIELD = 8,        /* a field outside its list */
-    GATEWAY_ROOM = 9,         /* lent output too short, or a register map not of 256 bytes */
+    GATEWAY_FIELD = 8,        /* a field outside its list; a text of more than 60 characters or with a wrong one, also in a
+                                 text store */
+    GATEWAY_ROOM = 9,         /* lent output too short (for a step: under 65 bytes), a register map not of 256 bytes, or a text
+                                 store not of 610 */
     GATEWAY_COST_WORD = 10,   /* cost word above 65025 */
     GATEWAY_TOTAL = 11        /* the total would pass 2^64 - 1 */
 };
@@ -47,7 +49,8 @@ static inline uint64_t gateway_value(uint64_t answer)
     return answer >> 8;
 }
 
-/* The 8 bits that start i bytes above the answer number. A frame read has its type at 0 and its count of data bytes at 1. */
+/* The 8 bits that start i bytes above the answer number. A frame read has its type at 0 and its count of data bytes at 1; an
+   Omnistat2 text read has its half-byte at 4. */
 static inline uint8_t gateway_byte(uint64_t answer, unsigned i)
 {
     return (uint8_t)(answer >> 8 >> 8 * i);
@@ -109,20 +112,34 @@ uint64_t omnilink_log_entry(const uint8_t *bytes, size_t len, size_t field);
 
 /* Omnistat2 messages: address byte, a byte with length N (high half) and type (low half), N data bytes, sum.
 
-   The readers refuse, in this order: 1 empty; 2 a first byte that is not for their end; 1 one byte only, or fewer than N+3
-   bytes; 4 more; 5 sum; 6 unknown type; 7 N wrong for the type; 8 a poll's count outside 1 to 14, or a run of registers that
-   ends above 255 or meets 172 to 181. The writers refuse 6, 7 and 8 likewise, 8 also an address or number outside its list,
-   then 9 too little room. */
+   A set (to a thermostat) or data (to the host) that starts at one of the registers 172 to 181 is a text: address byte, a byte
+   with any half-byte (high half) and the type (low half), start register, 0 to 60 characters of 20 to 7E hex, 03, sum. Its
+   half-byte counts nothing and is kept as it was sent. The longest message is a text of 60 characters: 65 bytes.
 
-/* Reads a message at the thermostat: type (8), first byte (8), start register (8), count of registers or values (8).
+   The readers refuse, in this order: 1 empty; 2 a first byte that is not for their end; 1 one byte only, or fewer than N+3
+   bytes; 4 more; 5 sum; 6 unknown type; 7 N wrong for the type; 8 a poll's count outside 1 to 14, or other than 1 where the
+   poll starts at 172 to 181, or a run of registers that ends above 255, or starts below 172 and meets 172 to 181.
+   Of a text they refuse, in this order: 1 empty; 2 a first byte that is not for their end; 1 fewer than three bytes; where no
+   03 is among the 61 bytes after the start register, 1 if fewer than 61 follow it, else 8; 1 nothing after the first 03; 4 more
+   than one byte after it; 5 sum; 8 a character outside 20 to 7E.
+
+   The writers of a type and data bytes refuse 6, 7 and 8 likewise, 8 also an address or number outside its list, then 9 too
+   little room. They write no text: a set or data that starts at 172 to 181 is 8, after 7. */
+
+/* Reads a message at the thermostat: type (8), first byte (8), start register (8), count of registers, values or characters
+   (8), half-byte of a text (8), which is 0 for every other message.
    Types: 0 poll, 1 set, 2 to 4 poll of group 1 to 3, whose start and count are 0. The values of a set are the count
-   bytes from bytes[3] on. The first byte is 00 for all, 01 to 7F, or FA universal.
-   01 21 3B 50 AD is a set (1) with first byte 1, start 59, count 1, and the value 50 hex at bytes[3]. */
+   bytes from bytes[3] on, and so are the characters of a text, which is a set with start 172 to 181. The first byte is 00 for
+   all, 01 to 7F, or FA universal.
+   01 21 3B 50 AD is a set (1) with first byte 1, start 59, count 1, and the value 50 hex at bytes[3]. 01 21 AF, then the
+   characters CUSTOM MESSAGE, 03 and D4, is a set with first byte 1, start 175, count 14, half-byte 2, and C at bytes[3]. */
 uint64_t omnistat_read_at_thermostat(const uint8_t *bytes, size_t len);
 
-/* Reads a message at the host: type (8), number of the thermostat (8), start register (8), count of values (8).
-   Types: 0 acknowledge, 1 negative, start and count 0; 2 data, the values from bytes[3] on; 3 to 5 group 1 to 3, start
-   0, the values from bytes[2] on. The first byte is 81 to FF, the number and 80: FA is a reply from thermostat 7A. */
+/* Reads a message at the host: type (8), number of the thermostat (8), start register (8), count of values or characters (8),
+   half-byte of a text (8), which is 0 for every other message.
+   Types: 0 acknowledge, 1 negative, start and count 0; 2 data, the values from bytes[3] on, or with start 172 to 181 the
+   characters of a text; 3 to 5 group 1 to 3, start 0, the values from bytes[2] on. The first byte is 81 to FF, the number
+   and 80: FA is a reply from thermostat 7A. */
 uint64_t omnistat_read_at_host(const uint8_t *bytes, size_t len);
 
 /* Writes a message to a thermostat, of a type and its data bytes: bytes written (16). The address is 00 for all, 01 to
@@ -132,18 +149,43 @@ uint64_t omnistat_write_to_thermostat(uint8_t address, uint8_t type, const uint8
 /* Writes a reply to the host, of a type and its data bytes: bytes written (16). The number is the thermostat's, 01 to 7F. */
 uint64_t omnistat_write_to_host(uint8_t number, uint8_t type, const uint8_t *data, size_t len, uint8_t *out, size_t room);
 
+/* Writes the set of a text register to a thermostat, of the len characters of a text: the 03 behind them is written too. The
+   address is 00 for all, 01 to 7F, or FA universal; half, the half-byte, is 0 to 15, and thermostats ignore it.
+   Accepted: bytes written (16), len + 5. Refused: 8 an address outside its list, half above 15, start outside 172 to 181, more
+   than 60 characters, or a character outside 20 to 7E hex; 9 too little room.
+   Address 1, half 0, start 175 and the text HI give 01 01 AF 48 49 03 45. */
+uint64_t omnistat_write_text_to_thermostat(uint8_t address, uint8_t half, uint8_t start, const uint8_t *text, size_t len,
+                                           uint8_t *out, size_t room);
+
+/* Writes the data of a text register to the host. The number is the thermostat's, 01 to 7F; all else is taken and refused as in
+   omnistat_write_text_to_thermostat. Number 1, half 0, start 175 and the text HI give 81 02 AF 48 49 03 C6. */
+uint64_t omnistat_write_text_to_host(uint8_t number, uint8_t half, uint8_t start, const uint8_t *text, size_t len,
+                                     uint8_t *out, size_t room);
+
 /* The model thermostat, temperatures and setpoints */
 
-/* A step of the model thermostat with the address own: takes a message of len bytes, changes the map, and writes the reply
-   to out. The map has 256 bytes, one for each register; out has room for at least 18.
+/* The bytes of a text store: the ten texts of registers 172 to 181, each a count byte (0 to 60) and then 60 bytes, the first
+   so many of them its characters. The text of register r starts with its count byte at texts[(r - 172) * 61]. A store starts
+   as zero bytes: ten empty texts. */
+enum { THERMOSTAT_TEXTS = 610 };
+
+/* A step of the model thermostat with the address own: takes a message of len bytes, changes the map or the text store, and
+   writes the reply to out. The map has 256 bytes, one for each register; texts has THERMOSTAT_TEXTS bytes; out has room for at
+   least 65.
    Accepted: bytes written (16), 0 where nothing is sent: a broadcast, or a message for another address.
-   Refused, with map and out unchanged: 9 room under 18, or map_len not 256; 8 own outside 1 to 127; then what
-   omnistat_read_at_thermostat refuses. A poll that meets an unlisted register gets a negative reply; so does a set that meets
-   a register that is unlisted or read only, or a byte out of its register's range, and it stores nothing. A poll of a read-only
-   register is answered with its content.
+   Refused, with map, texts and out unchanged: 9 room under 65, map_len not 256, or texts_len not THERMOSTAT_TEXTS; 8 own
+   outside 1 to 127, or a store with a count above 60 or a character outside 20 to 7E hex within its count; then what
+   omnistat_read_at_thermostat refuses. A poll of registers that meets an unlisted one gets a negative reply; so does a set that
+   meets a register that is unlisted or read only, or a byte out of its register's range, and it stores nothing. A poll of a
+   read-only register is answered with its content.
+   The set of a text register stores its count and its characters and is acknowledged; a broadcast one is stored in silence. The
+   bytes of the store past a count are not looked at, and stay. A poll of a text register is answered with its text as data,
+   with half-byte 0.
    At own 1, the message 01 21 3B 50 AD stores 50 hex in map[59] and writes 81 00 81; 00 21 3B 50 AC stores it too
-   and writes nothing. */
-uint64_t thermostat_step(uint8_t own, uint8_t *map, size_t map_len, const uint8_t *bytes, size_t len, uint8_t *out, size_t room);
+   and writes nothing. 01 01 AF 48 49 03 45 stores 02 48 49 hex from texts[183] on and writes 81 00 81; the poll
+   01 20 AF 01 D1 then writes 81 02 AF 48 49 03 C6. */
+uint64_t thermostat_step(uint8_t own, uint8_t *map, size_t map_len, uint8_t *texts, size_t texts_len,
+                         const uint8_t *bytes, size_t len, uint8_t *out, size_t room);
 
 /* A temperature byte in degrees Celsius, exactly byte/2 - 40. */
 float temperature_celsius(uint8_t byte);

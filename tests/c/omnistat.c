@@ -1,14 +1,39 @@
-/* Omnistat2 messages against a plain implementation written from document 01 and source document 004. */
+/* Omnistat2 messages against a plain implementation written from documents 01 and 02 and source document 004. */
 #include "check.h"
 #include "gateway.h"
 
 enum end { THERMOSTAT, HOST };
+enum { FIRST_TEXT = 172, LAST_TEXT = 181, TEXT_MAX = 60, TEXT_END = 0x03 };
+
+static int is_text_register(unsigned r) { return r >= FIRST_TEXT && r <= LAST_TEXT; }
+
+static int is_character(unsigned c) { return c >= 0x20 && c <= 0x7E; }
+
+/* Whether a first byte is for an end, and whether an address or number may be written. */
+static int is_first(enum end end, unsigned first)
+{
+    return end == THERMOSTAT ? first <= 0x7F || first == 0xFA : first >= 0x81;
+}
+
+static int is_address(enum end end, unsigned address)
+{
+    return end == THERMOSTAT ? is_first(end, address) : address >= 1 && address <= 0x7F;
+}
+
+static unsigned sum_of(const uint8_t *bytes, size_t n)
+{
+    unsigned sum = 0;
+    for (size_t i = 0; i < n; i++) {
+        sum += bytes[i];
+    }
+    return sum % 256;
+}
 
 /* A run of count registers ends at or below 255 and meets none of 172 to 181. */
 static int run_is_allowed(unsigned start, unsigned count)
 {
     for (unsigned r = start; r < start + count; r++) {
-        if (r > 255 || (r >= 172 && r <= 181)) {
+        if (r > 255 || is_text_register(r)) {
             return 0;
         }
     }
@@ -31,13 +56,16 @@ static unsigned judge(enum end end, unsigned type, const uint8_t *data, size_t n
             return 7;
         }
         *start = data[0];
-        *count = (unsigned)n - 1;
+        *count = (unsigned)n - 1;    /* from a text register on, only a text is written: no such run is allowed */
     } else if (poll) {
         if (n != 2) {
             return 7;
         }
         *start = data[0];
         *count = data[1];
+        if (is_text_register(*start)) {
+            return *count == 1 ? 0 : 8;
+        }
         if (*count < 1 || *count > 14) {
             return 8;
         }
@@ -53,18 +81,53 @@ static unsigned judge(enum end end, unsigned type, const uint8_t *data, size_t n
     return run_is_allowed(*start, *count) ? 0 : 8;
 }
 
+static uint64_t packed(unsigned type, unsigned address, unsigned start, unsigned count, unsigned half)
+{
+    return (uint64_t)type << 8 | (uint64_t)address << 16 | (uint64_t)start << 24 | (uint64_t)count << 32 | (uint64_t)half << 40;
+}
+
+/* A text of at least three bytes whose first byte is right: characters up to 03, then the sum. */
+static uint64_t model_read_text(unsigned address, const uint8_t *bytes, size_t len)
+{
+    const uint8_t *text = bytes + 3;
+    size_t after = len - 3, count = 0;
+    while (count < after && count <= TEXT_MAX && text[count] != TEXT_END) {
+        count++;
+    }
+    if (count > TEXT_MAX) {
+        return 8;
+    }
+    if (after < count + 2) {
+        return 1;
+    }
+    if (after > count + 2) {
+        return 4;
+    }
+    if (sum_of(bytes, len - 1) != bytes[len - 1]) {
+        return 5;
+    }
+    for (size_t i = 0; i < count; i++) {
+        if (!is_character(text[i])) {
+            return 8;
+        }
+    }
+    return packed(bytes[1] & 15, address, bytes[2], (unsigned)count, bytes[1] >> 4);
+}
+
 static uint64_t model_read(enum end end, const uint8_t *bytes, size_t len)
 {
     if (len == 0) {
         return 1;
     }
-    unsigned first = bytes[0];
-    int right = end == THERMOSTAT ? first <= 0x7F || first == 0xFA : first >= 0x81;
-    if (!right) {
+    if (!is_first(end, bytes[0])) {
         return 2;
     }
-    if (len == 1) {
+    if (len < 3) {
         return 1;
+    }
+    unsigned address = end == THERMOSTAT ? bytes[0] : bytes[0] - 0x80;
+    if ((bytes[1] & 15) == (end == THERMOSTAT ? 1 : 2) && is_text_register(bytes[2])) {
+        return model_read_text(address, bytes, len);
     }
     size_t n = bytes[1] >> 4;
     if (len < n + 3) {
@@ -73,11 +136,7 @@ static uint64_t model_read(enum end end, const uint8_t *bytes, size_t len)
     if (len > n + 3) {
         return 4;
     }
-    unsigned sum = 0;
-    for (size_t i = 0; i < len - 1; i++) {
-        sum += bytes[i];
-    }
-    if (sum % 256 != bytes[len - 1]) {
+    if (sum_of(bytes, len - 1) != bytes[len - 1]) {
         return 5;
     }
     unsigned type = bytes[1] & 15, start, count;
@@ -85,8 +144,7 @@ static uint64_t model_read(enum end end, const uint8_t *bytes, size_t len)
     if (refusal) {
         return refusal;
     }
-    unsigned address = end == THERMOSTAT ? first : first - 0x80;
-    return (uint64_t)type << 8 | (uint64_t)address << 16 | (uint64_t)start << 24 | (uint64_t)count << 32;
+    return packed(type, address, start, count, 0);
 }
 
 /* Writes into bytes, which has room for all; answers as the call does. */
@@ -97,8 +155,7 @@ static uint64_t model_write(enum end end, unsigned address, unsigned type, const
     if (refusal) {
         return refusal;
     }
-    int right = end == THERMOSTAT ? address <= 0x7F || address == 0xFA : address >= 1 && address <= 0x7F;
-    if (!right) {
+    if (!is_address(end, address)) {
         return 8;
     }
     if (room < n + 3) {
@@ -107,12 +164,36 @@ static uint64_t model_write(enum end end, unsigned address, unsigned type, const
     bytes[0] = (uint8_t)(end == THERMOSTAT ? address : address + 0x80);
     bytes[1] = (uint8_t)(n << 4 | type);
     memcpy(bytes + 2, data, n);
-    unsigned sum = 0;
-    for (size_t i = 0; i < n + 2; i++) {
-        sum += bytes[i];
-    }
-    bytes[n + 2] = (uint8_t)sum;
+    bytes[n + 2] = (uint8_t)sum_of(bytes, n + 2);
     return (uint64_t)(n + 3) << 8;
+}
+
+/* The numbers that a text writer is given. */
+struct text_head {
+    enum end end;
+    unsigned address, half, start;
+};
+
+static uint64_t model_write_text(struct text_head h, const uint8_t *text, size_t n, size_t room, uint8_t *bytes)
+{
+    if (!is_address(h.end, h.address) || h.half > 15 || !is_text_register(h.start) || n > TEXT_MAX) {
+        return 8;
+    }
+    for (size_t i = 0; i < n; i++) {
+        if (!is_character(text[i])) {
+            return 8;
+        }
+    }
+    if (room < n + 5) {
+        return 9;
+    }
+    bytes[0] = (uint8_t)(h.end == THERMOSTAT ? h.address : h.address + 0x80);
+    bytes[1] = (uint8_t)(h.half << 4 | (h.end == THERMOSTAT ? 1 : 2));
+    bytes[2] = (uint8_t)h.start;
+    memcpy(bytes + 3, text, n);
+    bytes[n + 3] = TEXT_END;
+    bytes[n + 4] = (uint8_t)sum_of(bytes, n + 4);
+    return (uint64_t)(n + 5) << 8;
 }
 
 static uint64_t ours_read(enum end end, const uint8_t *bytes, size_t len)
@@ -155,15 +236,45 @@ static void write_one(enum end end, unsigned address, unsigned type, const uint8
     SAME(bits_of(back, 16, 8), address);
 }
 
+/* Writes a text as the model does, and what was written is read back whole. */
+static void write_text(struct text_head h, const uint8_t *text, size_t n, size_t room)
+{
+    uint8_t want[TEXT_MAX + 5];
+    uint64_t wanted = model_write_text(h, text, n, room, want);
+    uint8_t *lent_text = lend_copy(&in, text, n);
+    uint8_t *lent_out = lend(&out, room);
+    uint8_t address = (uint8_t)h.address, half = (uint8_t)h.half, start = (uint8_t)h.start;
+    uint64_t got = h.end == THERMOSTAT ? omnistat_write_text_to_thermostat(address, half, start, lent_text, n, lent_out, room)
+                                       : omnistat_write_text_to_host(address, half, start, lent_text, n, lent_out, room);
+    SAME(got, wanted);
+    CHECK(kept_from(&in, 0));
+    if (answer_of(got) != 0) {
+        CHECK(kept_from(&out, 0));
+        return;
+    }
+    size_t written = bits_of(got, 8, 16);
+    CHECK(memcmp(lent_out, want, written) == 0);
+    CHECK(kept_from(&out, written));
+    SAME(ours_read(h.end, lent_out, written), packed(h.end == THERMOSTAT ? 1 : 2, h.address, h.start, (unsigned)n, h.half));
+    CHECK(memcmp(lent_out + 3, text, n) == 0);
+}
+
 /* Puts the right sum behind n bytes. */
 static size_t summed(uint8_t *bytes, size_t n)
 {
-    unsigned sum = 0;
-    for (size_t i = 0; i < n; i++) {
-        sum += bytes[i];
-    }
-    bytes[n] = (uint8_t)sum;
+    bytes[n] = (uint8_t)sum_of(bytes, n);
     return n + 1;
+}
+
+/* A text message: the two bytes before the start register, the start register, n characters, 03 and the right sum. */
+static size_t put_text(uint8_t *to, unsigned first, unsigned second, unsigned start, const uint8_t *text, size_t n)
+{
+    to[0] = (uint8_t)first;
+    to[1] = (uint8_t)second;
+    to[2] = (uint8_t)start;
+    memcpy(to + 3, text, n);
+    to[n + 3] = TEXT_END;
+    return summed(to, n + 4);
 }
 
 static uint32_t seed = 12345;
@@ -241,6 +352,167 @@ static void test_writes(void)
     }
 }
 
+/* First and second bytes of a set at the thermostat and of data at the host, without the half-byte. */
+static const uint8_t TEXT_HEADS[][2] = {{0x00, 1}, {0x01, 1}, {0x7F, 1}, {0xFA, 1}, {0x81, 2}, {0xFA, 2}, {0xFF, 2}};
+enum { HEADS = sizeof TEXT_HEADS / sizeof *TEXT_HEADS };
+
+/* A text as it is read: whole, a byte cut off, a byte more, with a wrong sum, and with 03 in place of the sum. */
+static void read_around(uint8_t *bytes, size_t len)
+{
+    read_both(bytes, len);
+    read_both(bytes, len - 1);
+    read_both(bytes, len - 2);
+    bytes[len] = 0x03;
+    read_both(bytes, len + 1);
+    bytes[len] = 0x41;
+    read_both(bytes, len + 1);
+    bytes[len - 1] ^= 0x10;
+    read_both(bytes, len);
+    read_both(bytes, len + 1);
+    bytes[len - 1] = 0x03;
+    read_both(bytes, len);
+}
+
+/* Every first and second byte: direction, half-byte and type. */
+static void test_text_heads(void)
+{
+    static const uint8_t text[] = {'p', 'o', 'w', 'e', 'r', ' ', 'l', 'o', 'w'};
+    for (unsigned first = 0; first < 256; first++) {
+        for (unsigned second = 0; second < 256; second++) {
+            uint8_t bytes[24];
+            read_around(bytes, put_text(bytes, first, second, 175, text, second % 3 == 0 ? 0 : sizeof text));
+        }
+    }
+}
+
+/* Every half-byte and register, from two below the text registers to two above them, with texts of 0 to 62 characters. */
+static void test_text_registers(void)
+{
+    uint8_t text[62], bytes[80];
+    memset(text, 'x', sizeof text);
+    for (unsigned head = 0; head < HEADS; head++) {
+        for (unsigned half = 0; half < 16; half++) {
+            for (unsigned start = FIRST_TEXT - 2; start <= LAST_TEXT + 2; start++) {
+                for (size_t n = 0; n <= sizeof text; n++) {
+                    read_around(bytes, put_text(bytes, TEXT_HEADS[head][0], half << 4 | TEXT_HEADS[head][1], start, text, n));
+                }
+            }
+        }
+    }
+}
+
+/* Every count of bytes after the start register up to 70, without 03 and with 03 at each of their places, the sum right or
+   wrong. */
+static void test_text_ends(void)
+{
+    for (unsigned head = 0; head < HEADS; head++) {
+        for (size_t after = 0; after <= 70; after++) {
+            for (size_t end = 0; end <= after; end++) {
+                for (unsigned fill = 0x1F; fill <= 0x21; fill++) {
+                    uint8_t bytes[80] = {TEXT_HEADS[head][0], (uint8_t)(fill << 4 | TEXT_HEADS[head][1]), 176};
+                    memset(bytes + 3, (int)fill, after);
+                    if (end < after) {
+                        bytes[3 + end] = TEXT_END;
+                    }
+                    read_both(bytes, 3 + after);
+                    if (after > 0) {
+                        summed(bytes, 2 + after);
+                        read_both(bytes, 3 + after);
+                    }
+                }
+            }
+        }
+    }
+}
+
+/* Every byte at the first, a middle and the last place of a text, with a right and with a wrong sum. */
+static void test_text_characters(void)
+{
+    static const size_t counts[] = {1, 2, 3, 14, 59, 60, 61};
+    for (unsigned head = 0; head < HEADS; head++) {
+        for (size_t i = 0; i < sizeof counts / sizeof *counts; i++) {
+            const size_t places[] = {0, counts[i] / 2, counts[i] - 1};
+            for (size_t k = 0; k < 3; k++) {
+                for (unsigned c = 0; c < 256; c++) {
+                    uint8_t text[61], bytes[70];
+                    memset(text, '~', sizeof text);
+                    text[places[k]] = (uint8_t)c;
+                    read_around(bytes, put_text(bytes, TEXT_HEADS[head][0], TEXT_HEADS[head][1], 180, text, counts[i]));
+                }
+            }
+        }
+    }
+}
+
+/* Long inputs: a text that never ends, one that ends too late, one with much behind it. */
+static void test_text_long(void)
+{
+    static uint8_t bytes[LENT_MAX];
+    for (unsigned head = 0; head < HEADS; head++) {
+        for (size_t len = 60; len <= LENT_MAX; len = len < 80 ? len + 1 : len * 2) {
+            memset(bytes, ' ', sizeof bytes);
+            memcpy(bytes, (const uint8_t[]){TEXT_HEADS[head][0], TEXT_HEADS[head][1], 172}, 3);
+            read_both(bytes, len);
+            bytes[len - 2] = TEXT_END;
+            summed(bytes, len - 1);
+            read_both(bytes, len);
+            bytes[5] = TEXT_END;
+            read_both(bytes, len);
+        }
+    }
+}
+
+/* Every address, half-byte and start register to a text writer; every length, with rooms around what is needed. */
+static void test_text_writes(void)
+{
+    static uint8_t text[LENT_MAX];
+    memset(text, 'n', sizeof text);
+    for (unsigned end = THERMOSTAT; end <= HOST; end++) {
+        for (unsigned k = 0; k < 256; k++) {
+            for (size_t n = 0; n <= TEXT_MAX + 1; n += n < 59 && n > 0 ? 29 : 1) {
+                for (size_t room = n + 4; room <= n + 6; room++) {
+                    write_text((struct text_head){end, k, 2, 175}, text, n, room);
+                    write_text((struct text_head){end, 0x7F, k, 172}, text, n, room);
+                    write_text((struct text_head){end, 1, 15, k}, text, n, room);
+                }
+            }
+        }
+        for (unsigned start = FIRST_TEXT - 1; start <= LAST_TEXT + 1; start++) {
+            for (unsigned half = 0; half <= 16; half++) {
+                for (size_t n = 0; n <= TEXT_MAX + 1; n++) {
+                    write_text((struct text_head){end, 0x7A, half, start}, text, n, 65);
+                }
+            }
+        }
+        for (size_t n = 0; n <= 70; n++) {
+            for (size_t room = 0; room <= 80; room++) {
+                write_text((struct text_head){end, 9, 0, 181}, text, n, room);
+            }
+        }
+        for (size_t n = 61; n <= LENT_MAX; n = n < 1024 ? n + 1 : n * 2) {
+            write_text((struct text_head){end, 9, 0, 181}, text, n, n % 2 ? LENT_MAX : 64);
+        }
+    }
+}
+
+/* Every byte at each place of a text to write, with room and without. */
+static void test_text_written_characters(void)
+{
+    static const size_t counts[] = {1, 2, 3, 59, 60, 61};
+    for (unsigned end = THERMOSTAT; end <= HOST; end++) {
+        for (size_t i = 0; i < sizeof counts / sizeof *counts; i++) {
+            for (size_t place = 0; place < counts[i]; place++) {
+                for (unsigned c = 0; c < 256; c++) {
+                    uint8_t text[61];
+                    memset(text, ' ', sizeof text);
+                    text[place] = (uint8_t)c;
+                    write_text((struct text_head){end, 1, 0, 178}, text, counts[i], c % 4 ? 65 : 0);
+                }
+            }
+        }
+    }
+}
+
 /* Bytes at random, most of them with a right sum. */
 static void test_random(void)
 {
@@ -257,6 +529,145 @@ static void test_random(void)
         }
         read_both(bytes, n);
     }
+}
+
+/* Texts at random, many of them with something wrong. */
+static void test_random_texts(void)
+{
+    for (int i = 0; i < 200000; i++) {
+        uint8_t text[66], bytes[80];
+        size_t n = any_byte() % 4 ? any_byte() % 61 : any_byte() % 66;
+        for (size_t k = 0; k < n; k++) {
+            text[k] = (uint8_t)(0x20 + any_byte() % 95);
+        }
+        if (n > 0 && any_byte() % 4 == 0) {
+            text[any_byte() % n] = any_byte();
+        }
+        const uint8_t *head = TEXT_HEADS[any_byte() % HEADS];
+        size_t len = put_text(bytes, head[0], (any_byte() & 0xF0u) | head[1], 171 + any_byte() % 12u, text, n);
+        if (any_byte() % 4 == 0) {
+            bytes[any_byte() % len] = any_byte();
+        }
+        if (any_byte() % 4 == 0) {
+            len -= any_byte() % len;
+        }
+        read_both(bytes, len);
+    }
+}
+
+/* Bytes, and what the two ends answer: documents 02 and 004 on texts. */
+static void test_text_examples(void)
+{
+    static const uint8_t custom[] = {'C', 'U', 'S', 'T', 'O', 'M', ' ', 'M', 'E', 'S', 'S', 'A', 'G', 'E'};
+    uint8_t bytes[80];
+    /* As document 004 prints it, with the sum 34, a slip for D4. */
+    size_t len = put_text(bytes, 0x01, 0x21, 0xAF, custom, sizeof custom);
+    SAME(len, 19);
+    SAME(bytes[18], 0xD4);
+    SAME(omnistat_read_at_thermostat(bytes, len), UINT64_C(0x020EAF010100));
+    SAME(omnistat_read_at_host(bytes, len), 2);
+    bytes[18] = 0x34;
+    SAME(omnistat_read_at_thermostat(bytes, len), 5);
+    SAME(omnistat_read_at_thermostat(bytes, len - 1), 1);
+    SAME(omnistat_read_at_thermostat(bytes, len - 2), 1);
+    SAME(omnistat_read_at_thermostat(bytes, len + 1), 4);
+
+    static const struct {
+        uint8_t bytes[8];
+        size_t len;
+        uint64_t at_thermostat, at_host;
+    } examples[] = {
+        {{0x01, 0x01, 0xAF, 'H', 'I', 0x03, 0x45}, 7, UINT64_C(0x02AF010100), 2},
+        {{0x00, 0x01, 0xAF, 'H', 'I', 0x03, 0x44}, 7, UINT64_C(0x02AF000100), 2},
+        {{0x81, 0x02, 0xAF, 'H', 'I', 0x03, 0xC6}, 7, 2, UINT64_C(0x02AF010200)},
+        {{0x81, 0xF2, 0xAF, 'H', 'I', 0x03, 0xB6}, 7, 2, UINT64_C(0x0F02AF010200)},
+        {{0xFA, 0x01, 0xB5, 0x03, 0xB3}, 5, UINT64_C(0xB5FA0100), 4},        /* no data: counted at the host */
+        {{0xFA, 0x02, 0xAC, 0x03, 0xAB}, 5, 4, UINT64_C(0xAC7A0200)},        /* no set: counted at the thermostat */
+        {{0xAA, 0x02, 0xAC}, 3, 2, 1},                     /* a whole counted message without values before; a text now */
+        {{0x01, 0x01, 0xAC}, 3, 1, 2},
+        {{0x01, 0x01}, 2, 1, 2},
+        {{0x80, 0x01}, 2, 2, 2},
+        {{0x80, 0x01, 0xAC, 0x03}, 4, 2, 2},
+        {{0x01, 0x01, 0xAC, 0x03}, 4, 1, 2},
+        {{0x01, 0x21, 0xAC, 0x50, 0x1E}, 5, 1, 2},         /* a set of one register, as it is counted elsewhere */
+        {{0x01, 0x21, 0xAC, 0x03, 0xD1}, 5, UINT64_C(0x0200AC010100), 2},
+        {{0x01, 0x21, 0xAC, 0x03, 0xD1, 0x00}, 6, 4, 2},
+        {{0x01, 0x21, 0xAC, 0x1F, 0x03, 0xF0}, 6, 8, 2},   /* a wrong character, after the sum */
+        {{0x01, 0x21, 0xAC, 0x1F, 0x03, 0xF1}, 6, 5, 2},
+        {{0x01, 0x21, 0xAC, 0x1F, 0x03, 0xF0, 0x00}, 7, 4, 2},
+        {{0x01, 0x21, 0xAC, 0x20, 0x03, 0xF1}, 6, UINT64_C(0x0201AC010100), 2},
+        {{0x01, 0x21, 0xAC, 0x7E, 0x03, 0x4F}, 6, UINT64_C(0x0201AC010100), 2},
+        {{0x01, 0x21, 0xAC, 0x7F, 0x03, 0x50}, 6, 8, 2},
+        {{0x01, 0x21, 0xAB, 0x03, 0xD0}, 5, UINT64_C(0x01AB010100), 2},      /* 171 and 182 hold no text */
+        {{0x01, 0x21, 0xB6, 0x03, 0xDB}, 5, UINT64_C(0x01B6010100), 2},
+        {{0x01, 0x31, 0xAB, 0x03, 0x03, 0xE3}, 6, 8, 2},                     /* a run from 171 meets 172 */
+        {{0x01, 0x20, 0xAC, 0x01, 0xCE}, 5, UINT64_C(0x01AC010000), 2},      /* polls: count 1 from 172 to 181 */
+        {{0x01, 0x20, 0xB5, 0x01, 0xD7}, 5, UINT64_C(0x01B5010000), 2},
+        {{0x01, 0x20, 0xAC, 0x00, 0xCD}, 5, 8, 2},
+        {{0x01, 0x20, 0xAC, 0x02, 0xCF}, 5, 8, 2},
+        {{0x01, 0x20, 0xB5, 0x02, 0xD8}, 5, 8, 2},
+        {{0x01, 0x20, 0xAB, 0x01, 0xCD}, 5, UINT64_C(0x01AB010000), 2},
+        {{0x01, 0x20, 0xAB, 0x02, 0xCE}, 5, 8, 2},
+        {{0x01, 0x20, 0xB6, 0x0E, 0xE5}, 5, UINT64_C(0x0EB6010000), 2},
+    };
+    for (size_t i = 0; i < sizeof examples / sizeof *examples; i++) {
+        SAME(omnistat_read_at_thermostat(examples[i].bytes, examples[i].len), examples[i].at_thermostat);
+        SAME(omnistat_read_at_host(examples[i].bytes, examples[i].len), examples[i].at_host);
+    }
+}
+
+/* Texts of 60 and 61 characters, and 60, 61 and 62 bytes without 03. */
+static void test_text_bounds(void)
+{
+    uint8_t bytes[80], text[62];
+    memset(text, 'z', sizeof text);
+    size_t len = put_text(bytes, 0x01, 0x01, 172, text, 60);
+    SAME(omnistat_read_at_thermostat(bytes, len), UINT64_C(0x3CAC010100));
+    SAME(omnistat_read_at_thermostat(bytes, len - 1), 1);
+    SAME(omnistat_read_at_thermostat(bytes, len - 2), 1);    /* 60 bytes without 03 */
+    len = put_text(bytes, 0x01, 0x01, 172, text, 61);
+    SAME(omnistat_read_at_thermostat(bytes, len), 8);
+    SAME(omnistat_read_at_thermostat(bytes, len - 1), 8);
+    SAME(omnistat_read_at_thermostat(bytes, len - 2), 8);    /* 61 */
+    SAME(omnistat_read_at_thermostat(bytes, len - 3), 1);    /* 60 */
+    put_text(bytes, 0x01, 0x01, 172, text, 62);
+    SAME(omnistat_read_at_thermostat(bytes, 65), 8);         /* 62 */
+    bytes[0] = 0x80;
+    SAME(omnistat_read_at_thermostat(bytes, 65), 2);
+    SAME(omnistat_read_at_thermostat(bytes, 3), 2);
+    len = put_text(bytes, 0xFF, 0x02, 181, text, 60);
+    SAME(omnistat_read_at_host(bytes, len), UINT64_C(0x3CB57F0200));
+    SAME(omnistat_read_at_host(bytes, len + 1), 4);
+    len = put_text(bytes, 0xFF, 0x02, 181, text, 61);
+    SAME(omnistat_read_at_host(bytes, len), 8);
+    SAME(omnistat_read_at_host(bytes, len - 3), 1);
+
+    SAME(omnistat_write_text_to_thermostat(1, 0, 175, NULL, 0, bytes, 5), 5 << 8);
+    CHECK(memcmp(bytes, (const uint8_t[]){0x01, 0x01, 0xAF, 0x03, 0xB4}, 5) == 0);
+    SAME(omnistat_write_text_to_host(1, 15, 175, text, 2, bytes, 7), 7 << 8);
+    CHECK(memcmp(bytes, (const uint8_t[]){0x81, 0xF2, 0xAF, 'z', 'z', 0x03, 0x19}, 7) == 0);
+    SAME(omnistat_write_text_to_thermostat(1, 0, 175, NULL, 0, NULL, 0), 9);
+    SAME(omnistat_write_text_to_host(1, 0, 175, NULL, 0, bytes, 4), 9);
+    SAME(omnistat_write_text_to_host(0, 0, 175, NULL, 0, NULL, 0), 8);
+    SAME(omnistat_write_text_to_host(128, 0, 175, NULL, 0, bytes, 5), 8);
+    SAME(omnistat_write_text_to_thermostat(0x80, 0, 175, NULL, 0, NULL, 0), 8);
+    SAME(omnistat_write_text_to_thermostat(1, 16, 175, NULL, 0, NULL, 0), 8);
+    SAME(omnistat_write_text_to_thermostat(1, 0, 171, NULL, 0, NULL, 0), 8);
+    SAME(omnistat_write_text_to_thermostat(1, 0, 182, NULL, 0, NULL, 0), 8);
+    SAME(omnistat_write_text_to_thermostat(1, 0, 181, text, 61, NULL, 0), 8);
+
+    /* The writers of a type and data bytes write no text. */
+    const uint8_t set[16] = {172, 'H', 0x03};
+    SAME(omnistat_write_to_thermostat(1, 1, set, 2, bytes, 18), 8);
+    SAME(omnistat_write_to_thermostat(1, 1, set, 3, NULL, 0), 8);
+    SAME(omnistat_write_to_thermostat(1, 1, set, 1, bytes, 18), 7);
+    SAME(omnistat_write_to_thermostat(1, 1, set, 16, bytes, 18), 7);
+    SAME(omnistat_write_to_host(1, 2, set, 2, bytes, 18), 8);
+    SAME(omnistat_write_to_host(1, 2, set, 16, bytes, 18), 7);
+    const uint8_t poll[] = {172, 1, 181, 1, 181, 2};
+    SAME(omnistat_write_to_thermostat(1, 0, poll, 2, bytes, 5), 5 << 8);
+    SAME(omnistat_write_to_thermostat(1, 0, poll + 2, 2, bytes, 5), 5 << 8);
+    SAME(omnistat_write_to_thermostat(1, 0, poll + 4, 2, NULL, 0), 8);
 }
 
 /* The examples of documents 01 and 004. */
@@ -293,18 +704,6 @@ static void test_examples(void)
     const uint8_t unlisted[] = {0x01, 0x20, 0x44, 0x02, 0x67};
     SAME(omnistat_read_at_thermostat(unlisted, 5), UINT64_C(0x0244010000));
 
-    /* Document 004's text example: its length half is ignored there, so it is too long here; a run that starts at a text
-       register is 8. The printed sum 34 is a slip for D4. */
-    const uint8_t text[] = {0x01, 0x21, 0xAF, 'C', 'U', 'S', 'T', 'O', 'M', ' ', 'M', 'E', 'S', 'S', 'A', 'G', 'E', 0x03, 0x34};
-    SAME(omnistat_read_at_thermostat(text, sizeof text), 4);
-    unsigned sum = 0;
-    for (size_t i = 0; i + 1 < sizeof text; i++) {
-        sum += text[i];
-    }
-    SAME(sum % 256, 0xD4);
-    uint8_t counted[] = {0x01, 0xF1, 0xAF, 'C', 'U', 'S', 'T', 'O', 'M', ' ', 'M', 'E', 'S', 'S', 'A', 'G', 'E', 0};
-    SAME(omnistat_read_at_thermostat(counted, summed(counted, 17)), 8);
-
     SAME(omnistat_read_at_thermostat(NULL, 0), 1);
     SAME(omnistat_read_at_host(NULL, 0), 1);
     SAME(omnistat_write_to_host(1, 0, NULL, 0, NULL, 0), 9);
@@ -317,6 +716,16 @@ int main(void)
     test_runs();
     test_writes();
     test_random();
+    test_text_heads();
+    test_text_registers();
+    test_text_ends();
+    test_text_characters();
+    test_text_long();
+    test_text_writes();
+    test_text_written_characters();
+    test_random_texts();
     test_examples();
+    test_text_examples();
+    test_text_bounds();
     return check_end();
 }

@@ -1,6 +1,5 @@
 -- Condition 2 holds: each part is the theorem of its crate. Assumes nothing.
-use mathlib.Core.Path.{_≡_, refl, sym, ap, subst, _∙_}
-use mathlib.Core.Bool.{true}
+use mathlib.Core.Path.{_≡_, refl, ap, _∙_}
 use mathlib.Core.List.{List}
 use Prim.Native.Nat.{ℕ}
 use Rattle.answer.specs.Answer.{accepted, onAccepted}
@@ -14,17 +13,18 @@ use Rattle.message.specs.Message.{fixed}
 use Rattle.message.specs.Typed.{withList}
 use Rattle.omnistat.proofs.Laws.Omnistat as Omnistat
 use Rattle.omnistat.specs.declared.frame.End.the-variants.{Thermostat}
-use Rattle.omnistat.specs.Message.{Request, setFrom}
-use Rattle.omnistat.specs.Omnistat.{Addressed, addressed, read}
+use Rattle.omnistat.specs.Message.{Request, poll, setFrom, pollGroup}
+use Rattle.omnistat.specs.Omnistat.{Message, counted, text, addressed, addressedCounted, read}
 use Rattle.x10.proofs.Laws.ReadAfterWrite as PatternsBack
 use Rattle.x10.proofs.Laws.WriteAfterRead as Patterns
 use Rattle.x10.specs.Pattern.{function}
 use Rattle.thermostat.specs.Step.{Done, step, changed}
-use Rattle.thermostat.proofs.Laws.Set.{set-stores, set-leaves-the-others, set-stores-none, another-address-leaves, poll-leaves, length-left}
+use Rattle.thermostat.proofs.Laws.Set.{set-stores, set-leaves-the-others, set-stores-none, set-leaves-the-texts, another-address-leaves, leaves-the-map, leaves-the-texts, length-left}
+use Rattle.thermostat.proofs.Laws.TextSet.{text-set-stores, text-set-leaves-the-others, text-set-leaves-the-map, texts-length-left, texts-left-allowed, polled-text-is-what-was-set}
 use Rattle.thermostat.proofs.Laws.Temperature as Temperatures
 use Rattle.tally.proofs.Laws.Run.{exact}
 use Rattle.listing.proofs.Laws.Faithful.{faithful, only-faithful}
-use Rattle.acceptance.specs.Conditions.{Condition-2, Messages-read-back, Items, Step-leaves}
+use Rattle.acceptance.specs.Conditions.{Condition-2, Messages-read-back, Items, Unchanged, Step-leaves}
 
 messages : Messages-read-back
 messages = record {
@@ -53,26 +53,37 @@ items s = record {
   no-command = other-type s 0x0F readCommand;
 }
 
-module _ (own : ℕ) (m s : List ℕ) (room : ℕ) (d : Done) (first : ℕ) (q : Request) (e : step own m s room ≡ accepted d)
+module _ (own : ℕ) (m texts s : List ℕ) (room : ℕ) (d : Done) (first : ℕ) (q : Message Thermostat) (e : step own m texts s room ≡ accepted d)
     (r : read Thermostat s ≡ accepted (addressed first q)) where
+  read-as : (p : Message Thermostat) → q ≡ p → read Thermostat s ≡ accepted (addressed first p)
+  read-as p is = r ∙ ap (λ (x : Message Thermostat). accepted (addressed first x)) is
+
   -- a message that sets nothing
-  polled : (p : Request) → q ≡ p → changed m p ≡ m → d .map ≡ m
-  polled p is same = poll-leaves own m s room d e first q r (ap (changed m) is ∙ same)
+  polled : (c : Request) → q ≡ counted c → changed m (counted c) ≡ m → Unchanged m texts d
+  polled c is same =
+      (leaves-the-map own m texts s room d e first (counted c) (read-as (counted c) is) same, leaves-the-texts own m texts s room d e first (counted c) (read-as (counted c) is) refl)
 
-  set-read : (start : ℕ) (values : List ℕ) → q ≡ setFrom start values → read Thermostat s ≡ accepted (addressed first (setFrom start values))
-  set-read start values is = r ∙ ap (λ (x : Request). accepted (addressed first x)) is
-
-  steps : Step-leaves own first q m (d .map)
+  steps : Step-leaves own first q m texts d
   steps = record {
-    same-length = length-left own m s room d e first q r;
-    another-address = another-address-leaves own m s room d e first q r;
-    polled = λ start count is. polled _ is refl;
-    group-polled = λ g is. polled _ is refl;
+    same-length = length-left own m texts s room d e first q r;
+    same-texts-length = texts-length-left own m texts s room d e first q r;
+    texts-allowed = texts-left-allowed own m texts s room d e first q r;
+    another-address = another-address-leaves own m texts s room d e first q r;
+    polled = λ start count is. polled (poll start count) is refl;
+    group-polled = λ g is. polled (pollGroup g) is refl;
     register-write = λ start values is f. record {
-      stores = set-stores own m s room d e first start values (set-read start values is) f;
-      leaves-the-others = set-leaves-the-others own m s room d e first start values (set-read start values is) f;
-      stores-none = set-stores-none own m s room d e first start values (set-read start values is) f;
+      stores = set-stores own m texts s room d e first start values (read-as (counted (setFrom start values)) is) f;
+      leaves-the-others = set-leaves-the-others own m texts s room d e first start values (read-as (counted (setFrom start values)) is) f;
+      stores-none = set-stores-none own m texts s room d e first start values (read-as (counted (setFrom start values)) is) f;
     };
+    register-write-leaves-texts = λ start values is.
+        set-leaves-the-texts own m texts s room d e first start values (read-as (counted (setFrom start values)) is);
+    text-write = λ t is f. record {
+      stores-count = text-set-stores own m texts s room d e first t (read-as (text t) is) f .0;
+      stores-characters = text-set-stores own m texts s room d e first t (read-as (text t) is) f .1;
+      leaves-the-others = text-set-leaves-the-others own m texts s room d e first t (read-as (text t) is) f;
+    };
+    text-write-leaves-map = λ t is. text-set-leaves-the-map own m texts s room d e first t (read-as (text t) is);
   }
 
 pub condition-2 : Condition-2
@@ -86,11 +97,12 @@ condition-2 = record {
   items = items;
   omnistat2 = λ end. record {
     read-back = λ a s any e. Omnistat.read-after-write end (a .address) (a .message) s e;
-    write-back = λ s a any e. Omnistat.write-after-read end (a .address) (a .message) s e;
+    write-back = λ s a t e. Omnistat.write-after-read end (a .address) (a .message) s t e;
   };
+  omnistat2-counted = Omnistat.write-after-read-counted;
   omnistat2-by-bytes = λ end address kind payload s e.
       let b = Omnistat.read-after-write-bytes end address kind payload s e in
-      (addressed address (b .0), ap (onAccepted (addressed address)) (b .1), b .2);
+      (addressedCounted end address (b .0), ap (onAccepted (addressedCounted end address)) (b .1), b .2);
   patterns = record {
     read-back = λ m ps b e. PatternsBack.read-after-write m ps b e;
     write-back = λ ps m any e. Patterns.write-after-read ps m e;
@@ -99,6 +111,7 @@ condition-2 = record {
       let b = PatternsBack.read-after-write-code house code ps e in
       (function house (b .0), ap (onAccepted (function house)) (b .1), b .2);
   steps = steps;
+  polled-text = polled-text-is-what-was-set;
   temperatures = record {
     byte-back = Temperatures.read-after-write;
     degrees-back = Temperatures.write-after-read;

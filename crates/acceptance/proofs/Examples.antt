@@ -11,11 +11,12 @@ use Rattle.link.specs.Frame.{readFrame, readBody}
 use Rattle.message.specs.Message.{readMessage, messageOf, withData, readPlain}
 use Rattle.omnistat.specs.Frame.{frame, total, bytesOf}
 use Rattle.omnistat.specs.Message.{asMessage}
-use Rattle.omnistat.specs.Omnistat.{read}
+use Rattle.omnistat.specs.Text.{carriesText}
+use Rattle.omnistat.specs.Omnistat.{read, readCounted}
 use Rattle.omnistat.specs.Register.{runAllowed}
 use Rattle.thermostat.specs.Registers.{listed, readOnly, allowed}
 use Rattle.thermostat.specs.Map.{stored}
-use Rattle.thermostat.specs.Step.{allSettable, sentBy, mapAfter, step}
+use Rattle.thermostat.specs.Step.{allSettable, sentBy, after, step}
 use Rattle.thermostat.proofs.Laws.Map.{put-same}
 use Rattle.tally.specs.Cost.{cost, tooLarge, millionths, power}
 use Rattle.x10.specs.Codes.{codeAt, indexOf, houseCode, unitCode}
@@ -25,10 +26,11 @@ use Rattle.acceptance.specs.Examples.{Holds, Marked-examples}
 
 pub marked-examples : Marked-examples
 unfolding Holds crc feed readFrame readBody readMessage messageOf withData readPlain
-    read frame total bytesOf asMessage runAllowed listed readOnly allowed stored allSettable sentBy mapAfter step
+    read readCounted carriesText frame total bytesOf asMessage runAllowed listed readOnly allowed stored allSettable sentBy after step
     cost tooLarge millionths power readPattern writePattern readKey standard spelled codeAt indexOf houseCode unitCode
-marked-examples map room whole fits =
+marked-examples map texts room whole store taken fits =
     let present : 59 < length map = omega arith in
-    let roomy : ltb room 18 ≡ false = le-ltb room 18 fits in
+    let roomy : ltb room 65 ≡ false = le-ltb room 65 fits in
     let complete : eqb (length map) 256 ≡ true = eq-eqb (length map) 256 whole in
-    (refl, (refl, (refl, (refl, (refl, (refl, (refl, (refl, (simp (roomy, complete), (put-same map 59 80 present, (simp (roomy, complete), (refl, (refl, (refl, (refl, tt)))))))))))))))
+    let stored-whole : eqb (length texts) 610 ≡ true = eq-eqb (length texts) 610 store in
+    (refl, (refl, (refl, (refl, (refl, (refl, (refl, (refl, (simp (roomy, complete, stored-whole, taken), (put-same map 59 80 present, (simp (roomy, complete, stored-whole, taken), (refl, (refl, (refl, (refl, tt)))))))))))))))

@@ -23,11 +23,13 @@ use Rattle.message.specs.declared.message.Fixed.{Fixed}
 use Rattle.message.specs.declared.message.Fixed.the-variants as F
 use Rattle.message.specs.declared.message.Message.{Message as Counted}
 use Rattle.omnistat.specs.declared.frame.End.{End}
-use Rattle.omnistat.specs.declared.frame.End.the-variants.{Thermostat}
+use Rattle.omnistat.specs.declared.frame.End.the-variants.{Thermostat, Host}
 use Rattle.omnistat.specs.declared.group.Group.{Group}
-use Rattle.omnistat.specs.Message.{Request, poll, setFrom, pollGroup, asMessage}
+use Rattle.omnistat.specs.Message.{Counted as CountedMessage, poll, setFrom, pollGroup, asMessage}
+use Rattle.omnistat.specs.Text.{Text}
 use Rattle.omnistat.specs.Omnistat as Omnistat
 use Rattle.thermostat.specs.Map.{content}
+use Rattle.thermostat.specs.Texts.{textPlace, textCount, heldText, storeAllowed}
 use Rattle.thermostat.specs.Step.{Done, step, isFor, allSettable}
 use Rattle.thermostat.specs.Temperature.{celsius, byteOf, bytesOf}
 use Rattle.tally.specs.Run.{Call, Promised, totalFound, sumAccepted}
@@ -86,13 +88,38 @@ pub record Set-leaves (m : List ℕ) (start : ℕ) (values after : List ℕ) : T
   pub leaves-the-others : allSettable start values ≡ true → (r : ℕ) → (r < start) ⊎ (start + length values ≤ r) → content after r ≡ content m r
   pub stores-none : allSettable start values ≡ false → after ≡ m
 
--- what a thermostat's step with a message leaves of its map: its length; all of it after a poll and after a message for another address
-pub record Step-leaves (own first : ℕ) (q : Request) (m after : List ℕ) : Type 0 where
-  pub same-length : length after ≡ length m
-  pub another-address : isFor own first ≡ false → after ≡ m
-  pub polled : (start count : ℕ) → q ≡ poll start count → after ≡ m
-  pub group-polled : (g : Group) → q ≡ pollGroup g → after ≡ m
-  pub register-write : (start : ℕ) (values : List ℕ) → q ≡ setFrom start values → isFor own first ≡ true → Set-leaves m start values after
+-- a text, at a text store, leaves a store: its own count and characters changed, and no other byte
+pub record Text-leaves (texts : List ℕ) (t : Text) (after : List ℕ) : Type 0 where
+  pub stores-count : textCount after (t .start) ≡ length (t .characters)
+  pub stores-characters : heldText after (t .start) ≡ t .characters
+  pub leaves-the-others : (p : ℕ) → (p < textPlace (t .start)) ⊎ (textPlace (t .start) + length (t .characters) < p) → getD after p 0 ≡ getD texts p 0
+
+-- what is lent to a step stays as it was
+abbrev pub Unchanged : List ℕ → List ℕ → Done → Type 0
+Unchanged m texts d = (d .map ≡ m) × (d .texts ≡ texts)
+
+-- what a thermostat's step with a message leaves of its map and its text store: their lengths, and a store that the next step takes; all of
+-- them after a poll and after a message for another address; the store after a register write, the map after a text
+pub record Step-leaves (own first : ℕ) (q : Omnistat.Message Thermostat) (m texts : List ℕ) (d : Done) : Type 0 where
+  pub same-length : length (d .map) ≡ length m
+  pub same-texts-length : length (d .texts) ≡ length texts
+  pub texts-allowed : storeAllowed (d .texts) ≡ true
+  pub another-address : isFor own first ≡ false → Unchanged m texts d
+  pub polled : (start count : ℕ) → q ≡ Omnistat.counted (poll start count) → Unchanged m texts d
+  pub group-polled : (g : Group) → q ≡ Omnistat.counted (pollGroup g) → Unchanged m texts d
+  pub register-write : (start : ℕ) (values : List ℕ) → q ≡ Omnistat.counted (setFrom start values) → isFor own first ≡ true → Set-leaves m start values (d .map)
+  pub register-write-leaves-texts : (start : ℕ) (values : List ℕ) → q ≡ Omnistat.counted (setFrom start values) → d .texts ≡ texts
+  pub text-write : (t : Text) → q ≡ Omnistat.text t → isFor own first ≡ true → Text-leaves texts t (d .texts)
+  pub text-write-leaves-map : (t : Text) → q ≡ Omnistat.text t → d .map ≡ m
+
+-- a text that was set is what the host reads when it is polled from the store that was left, with half-byte 0
+abbrev pub Polled-text : Type 0
+Polled-text = (own : ℕ) (m texts s : List ℕ) (room : ℕ) (d : Done) → step own m texts s room ≡ accepted d
+    → (first : ℕ) (t : Text) → Omnistat.read Thermostat s ≡ accepted (Omnistat.addressed first (Omnistat.text t)) → isFor own first ≡ true
+    → (map later : List ℕ) (room₂ : ℕ) (d₂ : Done) → step own map (d .texts) later room₂ ≡ accepted d₂
+    → (first₂ count : ℕ) → Omnistat.read Thermostat later ≡ accepted (Omnistat.addressedCounted Thermostat first₂ (poll (t .start) count))
+    → isFor own first₂ ≡ true → (first₂ ≡ 0 → ⊥)
+    → Omnistat.read Host (d₂ .sent) ≡ accepted (Omnistat.addressed own (Omnistat.text (record { half = 0; start = t .start; characters = t .characters })))
 
 -- a temperature byte, and a setpoint pair of two, goes to degrees and back; what goes back equals the degrees of its bytes, as floats are
 -- compared
@@ -108,13 +135,16 @@ pub record Condition-2 : Type 0 where
   pub first-frame : (kind : ℕ) (d s rest : List ℕ) → writeFrame kind d ≡ accepted s → readFirst (s ++ rest) ≡ accepted (record { kind = kind; bytes = d })
   pub messages : Messages-read-back
   pub items : (s : List ℕ) → Items s
-  pub omnistat2 : (end : End) → Inverse (Omnistat.read end) (λ a. Omnistat.write end (a .address) (a .message)) Any Any
+  pub omnistat2 : (end : End) → Inverse (Omnistat.read end) (λ a. Omnistat.write end (a .address) (a .message)) Any Bytes
+  pub omnistat2-counted : (end : End) (address : ℕ) (c : CountedMessage end) (s : List ℕ)
+      → Omnistat.read end s ≡ accepted (Omnistat.addressedCounted end address c) → Omnistat.write end address (Omnistat.counted c) ≡ accepted s
   pub omnistat2-by-bytes : (end : End) (address kind : ℕ) (payload : List ℕ)
-      → ReadsBack (Omnistat.read end) (onAccepted (Omnistat.addressed address) (asMessage end kind payload)) (Omnistat.writeBytes end address kind payload)
+      → ReadsBack (Omnistat.read end) (onAccepted (Omnistat.addressedCounted end address) (asMessage end kind payload)) (Omnistat.writeBytes end address kind payload)
   pub patterns : Inverse X10.read X10.write X10.Bytes Any
   pub functions-by-code : (house code : ℕ) → ReadsBack X10.read (onAccepted (X10.function house) (functionOf code)) (X10.writeFunctionCode house code)
-  pub steps : (own : ℕ) (m s : List ℕ) (room : ℕ) (d : Done) (first : ℕ) (q : Request)
-      → step own m s room ≡ accepted d → Omnistat.read Thermostat s ≡ accepted (Omnistat.addressed first q) → Step-leaves own first q m (d .map)
+  pub steps : (own : ℕ) (m texts s : List ℕ) (room : ℕ) (d : Done) (first : ℕ) (q : Omnistat.Message Thermostat)
+      → step own m texts s room ≡ accepted d → Omnistat.read Thermostat s ≡ accepted (Omnistat.addressed first q) → Step-leaves own first q m texts d
+  pub polled-text : Polled-text
   pub temperatures : Temperatures
   pub exact-sum : (calls : List Call) → Promised 0 calls → totalFound 0 calls ≡ sumAccepted calls
   pub listing : (s : List ℕ) → Faithful s (lines s)

@@ -1,6 +1,7 @@
 -- Document 01, "Examples; marked ones are proved": the marked cases, as one statement about the definitions.
 use Prim.Native.Nat.{ℕ, _≤_}
 use mathlib.Core.Path.{_≡_}
+use mathlib.Core.Bool.{true}
 use mathlib.Core.List.{List, [], _∷_}
 use lib.ListN.{length}
 use Rattle.answer.specs.Answer.{refused, accepted}
@@ -12,6 +13,7 @@ use Rattle.omnistat.specs.declared.group.Group.the-variants.{First}
 use Rattle.omnistat.specs.Message.{pollGroup}
 use Rattle.omnistat.specs.Omnistat as Omnistat
 use Rattle.thermostat.specs.Map.{content, put}
+use Rattle.thermostat.specs.Texts.{storeAllowed}
 use Rattle.thermostat.specs.Step.{step}
 use Rattle.tally.specs.Cost.{cost}
 use Rattle.x10.specs.Pattern as X10
@@ -25,9 +27,9 @@ Holds (c ∷ cs) = c × Holds cs
 abbrev pub a1 : List ℕ
 a1 = 1 ∷ 1 ∷ 1 ∷ 0 ∷ 0 ∷ 1 ∷ 1 ∷ 0 ∷ 1 ∷ 0 ∷ 0 ∷ 1 ∷ 0 ∷ 1 ∷ 1 ∷ 0 ∷ 1 ∷ 0 ∷ 0 ∷ 1 ∷ 0 ∷ 1 ∷ []
 
--- the marked cases in the paper's order. Those of thermostat 1 go by its map and the length of the output
-abbrev pub marked : List ℕ → ℕ → List (Type 0)
-marked map room =
+-- the marked cases in the paper's order. Those of thermostat 1 go by its map, its text store and the length of the output
+abbrev pub marked : List ℕ → List ℕ → ℕ → List (Type 0)
+marked map texts room =
     -- Omni-Link
     (readMessage (0x5A ∷ 0x01 ∷ 0x05 ∷ 0xC1 ∷ 0x93 ∷ []) ≡ accepted (fixed Acknowledge))
     ∷ (readMessage (0x5A ∷ 0x01 ∷ 0x06 ∷ 0x81 ∷ 0x92 ∷ []) ≡ accepted (fixed NegativeAcknowledge))
@@ -37,10 +39,10 @@ marked map room =
     ∷ (readFrame (0x5A ∷ 0x41 ∷ []) ≡ refused 1)
     ∷ (readFrame (0x5A ∷ 0x01 ∷ 0x05 ∷ 0xC1 ∷ 0x92 ∷ []) ≡ refused 5)
     -- Omnistat2
-    ∷ (Omnistat.read Thermostat (0x01 ∷ 0x02 ∷ 0x03 ∷ []) ≡ accepted (Omnistat.addressed 1 (pollGroup First)))
-    ∷ (step 1 map (0x01 ∷ 0x21 ∷ 0x3B ∷ 0x50 ∷ 0xAD ∷ []) room ≡ accepted (record { sent = 0x81 ∷ 0x00 ∷ 0x81 ∷ []; map = put map 59 80 }))
+    ∷ (Omnistat.read Thermostat (0x01 ∷ 0x02 ∷ 0x03 ∷ []) ≡ accepted (Omnistat.addressedCounted Thermostat 1 (pollGroup First)))
+    ∷ (step 1 map texts (0x01 ∷ 0x21 ∷ 0x3B ∷ 0x50 ∷ 0xAD ∷ []) room ≡ accepted (record { sent = 0x81 ∷ 0x00 ∷ 0x81 ∷ []; map = put map 59 80; texts = texts }))
     ∷ (content (put map 59 80) 59 ≡ 80)
-    ∷ (step 1 map (0x01 ∷ 0x21 ∷ 0x3B ∷ 0x7C ∷ 0xD9 ∷ []) room ≡ accepted (record { sent = 0x81 ∷ 0x01 ∷ 0x82 ∷ []; map = map }))
+    ∷ (step 1 map texts (0x01 ∷ 0x21 ∷ 0x3B ∷ 0x7C ∷ 0xD9 ∷ []) room ≡ accepted (record { sent = 0x81 ∷ 0x01 ∷ 0x82 ∷ []; map = map; texts = texts }))
     -- cost
     ∷ (cost 34567 ≡ accepted 4567000)
     ∷ (cost 65026 ≡ refused 10)
@@ -49,6 +51,7 @@ marked map room =
     ∷ (X10.read a1 ≡ accepted (X10.unit 0 1))
     ∷ []
 
--- every marked case holds, whatever the map of 256 bytes and the output of at least 18
+-- every marked case holds, whatever the map of 256 bytes, the text store of 610 that a step takes, and the output of at least 65
 abbrev pub Marked-examples : Type 0
-Marked-examples = (map : List ℕ) (room : ℕ) → length map ≡ 256 → 18 ≤ room → Holds (marked map room)
+Marked-examples =
+    (map texts : List ℕ) (room : ℕ) → length map ≡ 256 → length texts ≡ 610 → storeAllowed texts ≡ true → 65 ≤ room → Holds (marked map texts room)

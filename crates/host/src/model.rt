@@ -4,19 +4,26 @@ ghost use mathlib.Core.List.{[], _∷_};
 ghost use lib.ListN.{length};
 ghost use Rattle.answer.specs.Answer.{onAccepted, outAfter};
 ghost use Rattle.answer.specs.Packed.{packed, word};
-ghost use Rattle.thermostat.specs.Step.{step, mapOf, sentOf};
+ghost use Rattle.thermostat.specs.Step.{step, mapOf, textsOf, sentOf};
 ghost use Rattle.thermostat.specs.Temperature.{celsius, fahrenheitTenths, bytesOf, pairOf, pairFields};
 use thermostat::setpoints::Pair;
 use thermostat::setpoints::Setpoints;
 
 // A step of the model thermostat.
 #[no_mangle]
-pub extern "C" fn thermostat_step(own: u8, map: &mut [u8], bytes: &[u8], out: &mut [u8]) -> u64
-    ensures { λ n. ⌜ n ≡ packed (onAccepted (λ count. word count ∷ []) (onAccepted length (sentOf (step own (now (map .entry)) (now (bytes .entry)) (length (now (out .entry))))))) ⌝ }
-    ensures { λ n. ⌜ now (map .exit) ≡ mapOf (step own (now (map .entry)) (now (bytes .entry)) (length (now (out .entry)))) (now (map .entry)) ⌝ }
-    ensures { λ n. ⌜ now (out .exit) ≡ outAfter (sentOf (step own (now (map .entry)) (now (bytes .entry)) (length (now (out .entry))))) (now (out .entry)) ⌝ }
+pub extern "C" fn thermostat_step(
+    own: u8,
+    map: &mut [u8],
+    texts: &mut [u8],
+    bytes: &[u8],
+    out: &mut [u8],
+) -> u64
+    ensures { λ n. ⌜ n ≡ packed (onAccepted (λ count. word count ∷ []) (onAccepted length (sentOf (step own (now (map .entry)) (now (texts .entry)) (now (bytes .entry)) (length (now (out .entry))))))) ⌝ }
+    ensures { λ n. ⌜ now (map .exit) ≡ mapOf (step own (now (map .entry)) (now (texts .entry)) (now (bytes .entry)) (length (now (out .entry)))) (now (map .entry)) ⌝ }
+    ensures { λ n. ⌜ now (texts .exit) ≡ textsOf (step own (now (map .entry)) (now (texts .entry)) (now (bytes .entry)) (length (now (out .entry)))) (now (texts .entry)) ⌝ }
+    ensures { λ n. ⌜ now (out .exit) ≡ outAfter (sentOf (step own (now (map .entry)) (now (texts .entry)) (now (bytes .entry)) (length (now (out .entry))))) (now (out .entry)) ⌝ }
 {
-    answer::pack_written(thermostat::step::step(own, map, bytes, out))
+    answer::pack_written(thermostat::step::step(own, map, texts, bytes, out))
 }
 
 // A byte in degrees Celsius.

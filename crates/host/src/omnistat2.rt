@@ -4,6 +4,7 @@ ghost use mathlib.Core.List.{[], _∷_};
 ghost use lib.ListN.{length};
 ghost use Rattle.answer.specs.Answer.{onAccepted, inRoom, outAfter};
 ghost use Rattle.answer.specs.Packed.{packed, word};
+ghost use Rattle.omnistat.specs.Text.{writeText};
 ghost use Rattle.omnistat.specs.Omnistat.{read, writeBytes};
 ghost use Rattle.omnistat.specs.Answer.{fields};
 use omnistat::frame::End;
@@ -50,4 +51,34 @@ pub extern "C" fn omnistat_write_to_host(
     ensures { λ n. ⌜ now (out .exit) ≡ outAfter (inRoom (length (now (out .entry))) (writeBytes End.Host number kind (now (payload .entry)))) (now (out .entry)) ⌝ }
 {
     answer::pack_written(omnistat::reply::write(number, kind, payload, out))
+}
+
+// Writes a text to a thermostat.
+#[no_mangle]
+pub extern "C" fn omnistat_write_text_to_thermostat(
+    address: u8,
+    half: u8,
+    start: u8,
+    text: &[u8],
+    out: &mut [u8],
+) -> u64
+    ensures { λ n. ⌜ n ≡ packed (onAccepted (λ count. word count ∷ []) (onAccepted length (inRoom (length (now (out .entry))) (writeText End.Thermostat address (record { half = half; start = start; characters = now (text .entry) }))))) ⌝ }
+    ensures { λ n. ⌜ now (out .exit) ≡ outAfter (inRoom (length (now (out .entry))) (writeText End.Thermostat address (record { half = half; start = start; characters = now (text .entry) }))) (now (out .entry)) ⌝ }
+{
+    answer::pack_written(omnistat::request::write_text(address, half, start, text, out))
+}
+
+// Writes a text to the host.
+#[no_mangle]
+pub extern "C" fn omnistat_write_text_to_host(
+    number: u8,
+    half: u8,
+    start: u8,
+    text: &[u8],
+    out: &mut [u8],
+) -> u64
+    ensures { λ n. ⌜ n ≡ packed (onAccepted (λ count. word count ∷ []) (onAccepted length (inRoom (length (now (out .entry))) (writeText End.Host number (record { half = half; start = start; characters = now (text .entry) }))))) ⌝ }
+    ensures { λ n. ⌜ now (out .exit) ≡ outAfter (inRoom (length (now (out .entry))) (writeText End.Host number (record { half = half; start = start; characters = now (text .entry) }))) (now (out .entry)) ⌝ }
+{
+    answer::pack_written(omnistat::reply::write_text(number, half, start, text, out))
 }

@@ -9,4 +9,5 @@ pub mod Output
 pub mod Part
 pub mod Run
 pub mod Sum
+pub mod Text
 pub mod Typed

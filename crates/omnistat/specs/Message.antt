@@ -1,11 +1,11 @@
--- Document 01, "Omnistat2 messages": what a type and its data bytes say. Refusals in the order 6, 7, 8.
+-- Document 01, "Omnistat2 messages": messages of counted length, and what a type and its data bytes say. Refusals in the order 6, 7, 8.
 use Prim.Native.Nat.{ℕ}
-use mathlib.Core.Bool.{not, cond, _&&_}
+use mathlib.Core.Bool.{not, cond}
 use mathlib.Core.List.{List, [], _∷_}
 use lib.ListN.{length}
 use lib.Dec.{eqb}
 use Rattle.answer.specs.Answer.{Outcome, refused, accepted, refuseIf, andThen}
-use Rattle.omnistat.specs.Register.{within, runAllowed}
+use Rattle.omnistat.specs.Register.{within, runAllowed, pollAllowed}
 use Rattle.omnistat.specs.Group.{pollType, replyType, replyLength, groupOf}
 use Rattle.omnistat.specs.declared.group.Group.{Group}
 use Rattle.omnistat.specs.declared.frame.End.{End}
@@ -24,20 +24,20 @@ pub data Reply : Type 0 where
   dataFrom : ℕ → List ℕ → Reply
   group : Group → List ℕ → Reply
 
--- what is read at each end
-abbrev pub Message : End → Type 0
-Message Thermostat = Request
-Message Host = Reply
+-- what has a counted length at each end
+abbrev pub Counted : End → Type 0
+Counted Thermostat = Request
+Counted Host = Reply
 
 -- n data bytes, else 7
 abbrev pub ofLength : {M : Type 0} → ℕ → List ℕ → M → Outcome M
 ofLength n payload m = refuseIf (not (eqb (length payload) n)) 7 (accepted m)
 
--- N=2, else 7: start, and count 1-14 of a run that is allowed, else 8
+-- N=2, else 7: start, and a count that is allowed there, else 8
 abbrev pub asPoll : List ℕ → Outcome Request
 asPoll [] = refused 7
 asPoll (start ∷ []) = refused 7
-asPoll (start ∷ count ∷ []) = refuseIf (not (within 1 14 count && runAllowed start count)) 8 (accepted (poll start count))
+asPoll (start ∷ count ∷ []) = refuseIf (not (pollAllowed start count)) 8 (accepted (poll start count))
 asPoll (start ∷ count ∷ b ∷ payload) = refused 7
 
 -- N=2-15, else 7: start and values, of a run that is allowed, else 8
@@ -49,7 +49,7 @@ asRun make (start ∷ values) =
     (accepted (make start values)))
 
 -- from the host: poll, set, the polls of the groups. Replies: acknowledge, negative, data, the groups. Every other type is 6
-unfoldable pub asMessage : (end : End) → ℕ → List ℕ → Outcome (Message end)
+unfoldable pub asMessage : (end : End) → ℕ → List ℕ → Outcome (Counted end)
 asMessage Thermostat kind payload =
     cond (eqb kind 0) (asPoll payload)
     (cond (eqb kind 1) (asRun setFrom payload)
@@ -71,7 +71,7 @@ pub record Body : Type 0 where
 abbrev pub body : ℕ → ℕ → ℕ → List ℕ → Body
 body kind start count payload = record { kind = kind; start = start; count = count; payload = payload }
 
-abbrev pub bodyOf : (end : End) → Message end → Body
+abbrev pub bodyOf : (end : End) → Counted end → Body
 bodyOf Thermostat (poll start count) = body 0 start count (start ∷ count ∷ [])
 bodyOf Thermostat (setFrom start values) = body 1 start (length values) (start ∷ values)
 bodyOf Thermostat (pollGroup g) = body (pollType g) 0 0 []

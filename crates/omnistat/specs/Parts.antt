@@ -14,6 +14,10 @@ use Rattle.omnistat.specs.declared.message.Run.{Run}
 use Rattle.omnistat.specs.declared.message.Run.the-variants.{Refused as RunRefused, Registers}
 use Rattle.omnistat.specs.declared.message.Check.{Check}
 use Rattle.omnistat.specs.declared.message.Check.the-variants.{Refused as CheckRefused, Passed}
+use Rattle.omnistat.specs.declared.text.Texted.{Texted}
+use Rattle.omnistat.specs.declared.text.Texted.the-variants.{Refused as TextRefused, Whole as WholeText}
+use Rattle.omnistat.specs.Text.{Text}
+use Rattle.omnistat.specs.Answer.{textIn}
 
 -- a frame's data bytes are the part of the message between its second byte and its sum
 abbrev pub framedIn : List ℕ → Framed → Outcome Frame
@@ -29,6 +33,11 @@ namedOf Unknown = refused 6
 abbrev pub runIn : List ℕ → Run → Outcome (ℕ × List ℕ)
 runIn bytes (RunRefused r) = refused (numberOf r)
 runIn bytes (Registers start count) = accepted (start, take count (drop 3 bytes))
+
+-- a text with its address
+abbrev pub textedIn : List ℕ → Texted → Outcome (ℕ × Text)
+textedIn bytes (TextRefused r) = refused (numberOf r)
+textedIn bytes (WholeText address half start count) = accepted (address, textIn bytes half start count)
 
 -- an answer about data bytes is this outcome in every message that they stand in, whatever follows them
 abbrev pub Says : {A M : Type 0} → (List ℕ → A → Outcome M) → List ℕ → A → Outcome M → Type 0

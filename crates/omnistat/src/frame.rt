@@ -57,20 +57,21 @@ pub(crate) fn counted_length(second: u8) -> usize
 
 // The sum of bytes, modulo 256.
 pub(crate) fn sum(bytes: &[u8]) -> u8
+    requires { ⌜ length (now bytes) ≤ 255 ⌝ }
     ensures { λ r. ⌜ r ≡ sumOf (now (bytes .entry)) ⌝ }
 {
     let mut total: u32 = 0;
     let mut i: usize = 0;
     while i < bytes.len() {
-        total = (total + bytes[i] as u32) % 256;
+        total += bytes[i] as u32;
         i += 1;
     }
-    total as u8
+    (total % 256) as u8
 }
 
 // Whether the byte at a place is the sum of those before it.
-fn is_summed(bytes: &[u8], last: usize) -> bool
-    requires { ⌜ last < length (now bytes) ⌝ }
+pub(crate) fn is_summed(bytes: &[u8], last: usize) -> bool
+    requires { ⌜ (last < length (now bytes)) × (last ≤ 255) ⌝ }
     ensures { λ r. ⌜ r ≡ eqb (getD (now (bytes .entry)) last 0) (sumOf (take last (now (bytes .entry)))) ⌝ }
 {
     bytes[last] == sum(&bytes[..last])
@@ -124,7 +125,7 @@ pub(crate) fn part(bytes: &[u8], from: usize, count: usize) -> &[u8]
 
 // Copies all of `from` into `out`, at a place, and answers its sum.
 pub(crate) fn put(out: &mut [u8], at: usize, from: &[u8]) -> u8
-    requires { ⌜ at + length (now from) ≤ length (now out) ⌝ }
+    requires { ⌜ (at + length (now from) ≤ length (now out)) × (length (now from) ≤ 255) ⌝ }
     ensures { λ r. ⌜ r ≡ sumOf (now (from .entry)) ⌝ }
     ensures { λ r. ⌜ now (out .exit) ≡ paste (now (out .entry)) at (now (from .entry)) (length (now (from .entry))) ⌝ }
 {
@@ -132,14 +133,14 @@ pub(crate) fn put(out: &mut [u8], at: usize, from: &[u8]) -> u8
     let mut i = 0;
     while i < from.len() {
         out[at + i] = from[i];
-        total = (total + from[i] as u32) % 256;
+        total += from[i] as u32;
         i += 1;
     }
-    total as u8
+    (total % 256) as u8
 }
 
 // The sum of two bytes, modulo 256.
-fn plus(a: u8, b: u8) -> u8
+pub(crate) fn plus(a: u8, b: u8) -> u8
     ensures { λ r. ⌜ r ≡ (a + b) % 256 ⌝ }
 {
     ((a as u32 + b as u32) % 256) as u8

@@ -4,3 +4,4 @@ pub mod group; // the three groups of registers
 mod message; // runs of registers, and what messages of both ends share
 pub mod reply; // what a thermostat replies: read at the host, written to the host
 pub mod request; // what the host sends: read at the thermostat, written to the thermostat
+pub mod text; // texts on the thermostat's screen, at both ends

@@ -1,23 +1,21 @@
 // What the messages of both ends share: the rule for runs of registers, the checks of data bytes, and what is packed of them.
 ghost use mathlib.Core.Path.{_≡_};
 ghost use mathlib.Core.Bool.{not};
-ghost use mathlib.Core.List.{[], _∷_};
 ghost use lib.ListN.{length};
 ghost use Rattle.answer.specs.Answer.{accepted, refuseIf};
-ghost use Rattle.answer.specs.Packed.{packed, byte};
+ghost use Rattle.answer.specs.Packed.{packed};
 ghost use Rattle.omnistat.specs.Register.{within, runAllowed};
 ghost use Rattle.omnistat.specs.Message.{ofLength, asRun};
+ghost use Rattle.omnistat.specs.Answer.{countedFields};
 ghost use Rattle.omnistat.specs.Parts.{Says, runIn, checkOf};
+use crate::text::FIRST_TEXT;
+use crate::text::LAST_TEXT;
 use answer::Refusal;
 
 // The most values that one message sets or returns.
 const MOST_VALUES: usize = 14;
-// The count of registers, and the registers that hold text.
+// The count of registers.
 const REGISTERS: u16 = 256;
-
-const FIRST_TEXT: u16 = 172;
-
-const LAST_TEXT: u8 = 181;
 
 // A start register and the count of the values that follow it.
 pub(crate) enum Run {
@@ -33,7 +31,7 @@ pub(crate) fn is_run(start: u8, count: u8) -> bool
     if REGISTERS < past {
         return false;
     }
-    if past <= FIRST_TEXT {
+    if past <= FIRST_TEXT as u16 {
         return true;
     }
     LAST_TEXT < start
@@ -96,7 +94,7 @@ pub(crate) fn read_run(payload: &[u8]) -> Run
 
 // What is packed of a set or data message.
 pub(crate) fn pack_run(kind: u8, address: u8, payload: &[u8]) -> u64
-    ensures { λ n. ⌜ n ≡ packed (asRun (λ start values. byte kind ∷ byte address ∷ byte start ∷ byte (length values) ∷ []) (now (payload .entry))) ⌝ }
+    ensures { λ n. ⌜ n ≡ packed (asRun (λ start values. countedFields kind address start (length values)) (now (payload .entry))) ⌝ }
 {
     match check_run_in(payload) {
         Check::Refused(r) => answer::pack_refusal(r),
@@ -106,7 +104,7 @@ pub(crate) fn pack_run(kind: u8, address: u8, payload: &[u8]) -> u64
 
 // What is packed of a message with a fixed count of data bytes and no start register.
 pub(crate) fn pack_fixed(kind: u8, address: u8, count: u8, payload: &[u8]) -> u64
-    ensures { λ n. ⌜ n ≡ packed (ofLength count (now (payload .entry)) (byte kind ∷ byte address ∷ byte 0 ∷ byte count ∷ [])) ⌝ }
+    ensures { λ n. ⌜ n ≡ packed (ofLength count (now (payload .entry)) (countedFields kind address 0 count)) ⌝ }
 {
     match check_length(count as usize, payload) {
         Check::Refused(r) => answer::pack_refusal(r),

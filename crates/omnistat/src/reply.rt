@@ -6,9 +6,10 @@ ghost use lib.ListN.{length, take, drop};
 ghost use Rattle.answer.specs.Answer.{onAccepted, inRoom, outAfter, writtenOf};
 ghost use Rattle.answer.specs.Packed.{packed};
 ghost use Rattle.omnistat.specs.Message.{asRun, ofLength, asMessage, acknowledge, negative, dataFrom, group as groupValues};
-ghost use Rattle.omnistat.specs.Omnistat.{addressed, read, write, writeBytes};
+ghost use Rattle.omnistat.specs.Omnistat.{counted, text, addressedCounted, addressedText, readCounted, read, write, writeBytes};
 ghost use Rattle.omnistat.specs.Frame.{directed, firstOf};
 ghost use Rattle.omnistat.specs.Group.{replyLength};
+ghost use Rattle.omnistat.specs.Text.{readText};
 ghost use Rattle.omnistat.specs.Answer.{replyIn, fields};
 ghost use Rattle.omnistat.specs.Parts.{Says, checkOf, passed};
 use crate::frame::End;
@@ -18,6 +19,7 @@ use crate::group::Group;
 use crate::group::Named;
 use crate::message::Check;
 use crate::message::Run;
+use crate::text::Texted;
 use answer::Refusal;
 use answer::Written;
 
@@ -36,19 +38,37 @@ const LAST_NUMBER: u8 = 0x7F;
 // The values of a group follow the second byte.
 const GROUP_VALUES: usize = 2;
 
-// What a message to the host is, with the number of the thermostat that sent it. The values are a part of the message, which
-// `values` and `group_values` hand back.
+// What a message to the host is, with the number of the thermostat that sent it. The values and the characters of a text are a part of
+// the message, which `values` and `group_values` hand back.
 pub enum Reply {
     Refused(Refusal),
-    Acknowledge { number: u8 },
-    Negative { number: u8 },
-    Data { number: u8, start: u8, count: u8 },
-    Group { number: u8, group: Group, count: u8 },
+    Acknowledge {
+        number: u8,
+    },
+    Negative {
+        number: u8,
+    },
+    Data {
+        number: u8,
+        start: u8,
+        count: u8,
+    },
+    Group {
+        number: u8,
+        group: Group,
+        count: u8,
+    },
+    Text {
+        number: u8,
+        half: u8,
+        start: u8,
+        count: u8,
+    },
 }
 
 // The data bytes of an acknowledge: none.
 pub(crate) fn as_acknowledge(number: u8, payload: &[u8]) -> Reply
-    ensures { λ r. ⌜ Says replyIn (now (payload .entry)) r (onAccepted (addressed number) (ofLength 0 (now (payload .entry)) acknowledge)) ⌝ }
+    ensures { λ r. ⌜ Says replyIn (now (payload .entry)) r (onAccepted (addressedCounted End.Host number) (ofLength 0 (now (payload .entry)) acknowledge)) ⌝ }
 {
     if payload.len() != 0 {
         return Reply::Refused(Refusal::TypeLength);
@@ -58,7 +78,7 @@ pub(crate) fn as_acknowledge(number: u8, payload: &[u8]) -> Reply
 
 // The data bytes of a negative: none.
 pub(crate) fn as_negative(number: u8, payload: &[u8]) -> Reply
-    ensures { λ r. ⌜ Says replyIn (now (payload .entry)) r (onAccepted (addressed number) (ofLength 0 (now (payload .entry)) negative)) ⌝ }
+    ensures { λ r. ⌜ Says replyIn (now (payload .entry)) r (onAccepted (addressedCounted End.Host number) (ofLength 0 (now (payload .entry)) negative)) ⌝ }
 {
     if payload.len() != 0 {
         return Reply::Refused(Refusal::TypeLength);
@@ -68,7 +88,7 @@ pub(crate) fn as_negative(number: u8, payload: &[u8]) -> Reply
 
 // The data bytes of a data message: start and values.
 pub(crate) fn as_data(number: u8, payload: &[u8]) -> Reply
-    ensures { λ r. ⌜ Says replyIn (now (payload .entry)) r (onAccepted (addressed number) (asRun dataFrom (now (payload .entry)))) ⌝ }
+    ensures { λ r. ⌜ Says replyIn (now (payload .entry)) r (onAccepted (addressedCounted End.Host number) (asRun dataFrom (now (payload .entry)))) ⌝ }
 {
     match crate::message::read_run(payload) {
         Run::Refused(r) => Reply::Refused(r),
@@ -82,7 +102,7 @@ pub(crate) fn as_data(number: u8, payload: &[u8]) -> Reply
 
 // The data bytes of a group: as many values as it has.
 pub(crate) fn as_group(number: u8, group: Group, payload: &[u8]) -> Reply
-    ensures { λ r. ⌜ Says replyIn (now (payload .entry)) r (onAccepted (addressed number) (ofLength (replyLength group) (now (payload .entry)) (groupValues group (now (payload .entry))))) ⌝ }
+    ensures { λ r. ⌜ Says replyIn (now (payload .entry)) r (onAccepted (addressedCounted End.Host number) (ofLength (replyLength group) (now (payload .entry)) (groupValues group (now (payload .entry))))) ⌝ }
 {
     let count = crate::group::reply_length(group);
     if payload.len() != count as usize {
@@ -97,7 +117,7 @@ pub(crate) fn as_group(number: u8, group: Group, payload: &[u8]) -> Reply
 
 // What a type and its data bytes say to the host.
 pub(crate) fn as_reply(number: u8, kind: u8, payload: &[u8]) -> Reply
-    ensures { λ r. ⌜ Says replyIn (now (payload .entry)) r (onAccepted (addressed number) (asMessage End.Host kind (now (payload .entry)))) ⌝ }
+    ensures { λ r. ⌜ Says replyIn (now (payload .entry)) r (onAccepted (addressedCounted End.Host number) (asMessage End.Host kind (now (payload .entry)))) ⌝ }
 {
     if kind == ACKNOWLEDGE {
         return as_acknowledge(number, payload);
@@ -114,9 +134,9 @@ pub(crate) fn as_reply(number: u8, kind: u8, payload: &[u8]) -> Reply
     }
 }
 
-// Reads a message at the host. Every first byte above 80 is a reply from that number less 80.
-pub fn read(bytes: &[u8]) -> Reply
-    ensures { λ r. ⌜ replyIn (now (bytes .entry)) r ≡ read End.Host (now (bytes .entry)) ⌝ }
+// Reads a message of counted length. Every first byte above 80 is a reply from that number less 80.
+pub(crate) fn read_counted(bytes: &[u8]) -> Reply
+    ensures { λ r. ⌜ replyIn (now (bytes .entry)) r ≡ readCounted End.Host (now (bytes .entry)) ⌝ }
 {
     match crate::frame::read(End::Host, bytes) {
         Framed::Refused(r) => Reply::Refused(r),
@@ -128,7 +148,38 @@ pub fn read(bytes: &[u8]) -> Reply
     }
 }
 
-// The values of a data message with count values that was read from these bytes: a part of them.
+// Reads a text.
+pub(crate) fn read_text(bytes: &[u8]) -> Reply
+    requires { ⌜ 3 ≤ length (now bytes) ⌝ }
+    ensures { λ r. ⌜ replyIn (now (bytes .entry)) r ≡ onAccepted (addressedText End.Host) (readText End.Host (now (bytes .entry))) ⌝ }
+{
+    match crate::text::read(End::Host, bytes) {
+        Texted::Refused(r) => Reply::Refused(r),
+        Texted::Whole {
+            address,
+            half,
+            start,
+            count,
+        } => Reply::Text {
+            number: address,
+            half,
+            start,
+            count,
+        },
+    }
+}
+
+// Reads a message at the host.
+pub fn read(bytes: &[u8]) -> Reply
+    ensures { λ r. ⌜ replyIn (now (bytes .entry)) r ≡ read End.Host (now (bytes .entry)) ⌝ }
+{
+    if crate::text::carries_text(End::Host, bytes) {
+        return read_text(bytes);
+    }
+    read_counted(bytes)
+}
+
+// The values of a data message, or the characters of a text, that was read from these bytes with this count: a part of them.
 pub fn values(bytes: &[u8], count: u8) -> &[u8]
     ensures { λ r. ⌜ now r ≡ take count (drop 3 (now (bytes .entry))) ⌝ }
 {
@@ -144,7 +195,7 @@ pub fn group_values(bytes: &[u8], count: u8) -> &[u8]
 
 // What is packed of a type and its data bytes.
 pub(crate) fn pack(number: u8, kind: u8, payload: &[u8]) -> u64
-    ensures { λ n. ⌜ n ≡ packed (onAccepted (fields End.Host) (onAccepted (addressed number) (asMessage End.Host kind (now (payload .entry))))) ⌝ }
+    ensures { λ n. ⌜ n ≡ packed (onAccepted (fields End.Host) (onAccepted (addressedCounted End.Host number) (asMessage End.Host kind (now (payload .entry))))) ⌝ }
 {
     if kind == ACKNOWLEDGE {
         return crate::message::pack_fixed(ACKNOWLEDGE, number, 0, payload);
@@ -166,9 +217,9 @@ pub(crate) fn pack(number: u8, kind: u8, payload: &[u8]) -> u64
     }
 }
 
-// Reads a message at the host, for C: type, number, start and count of values. A number in place of a typed answer stays out of memory.
-pub fn read_packed(bytes: &[u8]) -> u64
-    ensures { λ n. ⌜ n ≡ packed (onAccepted (fields End.Host) (read End.Host (now (bytes .entry)))) ⌝ }
+// What is packed of a message of counted length.
+pub(crate) fn pack_counted(bytes: &[u8]) -> u64
+    ensures { λ n. ⌜ n ≡ packed (onAccepted (fields End.Host) (readCounted End.Host (now (bytes .entry)))) ⌝ }
 {
     match crate::frame::read(End::Host, bytes) {
         Framed::Refused(r) => answer::pack_refusal(r),
@@ -178,6 +229,17 @@ pub fn read_packed(bytes: &[u8]) -> u64
             crate::frame::part(bytes, 2, count as usize),
         ),
     }
+}
+
+// Reads a message at the host, for C: type, number, start and count, and the half-byte of a text. A number in place of a typed answer stays
+// out of memory.
+pub fn read_packed(bytes: &[u8]) -> u64
+    ensures { λ n. ⌜ n ≡ packed (onAccepted (fields End.Host) (read End.Host (now (bytes .entry)))) ⌝ }
+{
+    if crate::text::carries_text(End::Host, bytes) {
+        return crate::text::pack(End::Host, bytes);
+    }
+    pack_counted(bytes)
 }
 
 // Whether a type and its data bytes are a reply.
@@ -244,24 +306,24 @@ fn write_empty(number: u8, kind: u8, out: &mut [u8]) -> Written
 
 // Writes an acknowledge.
 pub fn write_acknowledge(number: u8, out: &mut [u8]) -> Written
-    ensures { λ r. ⌜ writtenOf r ≡ onAccepted length (inRoom (length (now (out .entry))) (write End.Host number acknowledge)) ⌝ }
-    ensures { λ r. ⌜ now (out .exit) ≡ outAfter (inRoom (length (now (out .entry))) (write End.Host number acknowledge)) (now (out .entry)) ⌝ }
+    ensures { λ r. ⌜ writtenOf r ≡ onAccepted length (inRoom (length (now (out .entry))) (write End.Host number (counted acknowledge))) ⌝ }
+    ensures { λ r. ⌜ now (out .exit) ≡ outAfter (inRoom (length (now (out .entry))) (write End.Host number (counted acknowledge))) (now (out .entry)) ⌝ }
 {
     write_empty(number, ACKNOWLEDGE, out)
 }
 
 // Writes a negative.
 pub fn write_negative(number: u8, out: &mut [u8]) -> Written
-    ensures { λ r. ⌜ writtenOf r ≡ onAccepted length (inRoom (length (now (out .entry))) (write End.Host number negative)) ⌝ }
-    ensures { λ r. ⌜ now (out .exit) ≡ outAfter (inRoom (length (now (out .entry))) (write End.Host number negative)) (now (out .entry)) ⌝ }
+    ensures { λ r. ⌜ writtenOf r ≡ onAccepted length (inRoom (length (now (out .entry))) (write End.Host number (counted negative))) ⌝ }
+    ensures { λ r. ⌜ now (out .exit) ≡ outAfter (inRoom (length (now (out .entry))) (write End.Host number (counted negative))) (now (out .entry)) ⌝ }
 {
     write_empty(number, NEGATIVE, out)
 }
 
 // Writes data: the contents of registers from a start, lent as values.
 pub fn write_data(number: u8, start: u8, values: &[u8], out: &mut [u8]) -> Written
-    ensures { λ r. ⌜ writtenOf r ≡ onAccepted length (inRoom (length (now (out .entry))) (write End.Host number (dataFrom start (now (values .entry))))) ⌝ }
-    ensures { λ r. ⌜ now (out .exit) ≡ outAfter (inRoom (length (now (out .entry))) (write End.Host number (dataFrom start (now (values .entry))))) (now (out .entry)) ⌝ }
+    ensures { λ r. ⌜ writtenOf r ≡ onAccepted length (inRoom (length (now (out .entry))) (write End.Host number (counted (dataFrom start (now (values .entry)))))) ⌝ }
+    ensures { λ r. ⌜ now (out .exit) ≡ outAfter (inRoom (length (now (out .entry))) (write End.Host number (counted (dataFrom start (now (values .entry)))))) (now (out .entry)) ⌝ }
 {
     match crate::message::check_run(start, values.len()) {
         Check::Refused(r) => Written::Refused(r),
@@ -277,8 +339,23 @@ pub fn write_data(number: u8, start: u8, values: &[u8], out: &mut [u8]) -> Writt
 
 // Writes a group, with the lent values.
 pub fn write_group(number: u8, group: Group, values: &[u8], out: &mut [u8]) -> Written
-    ensures { λ r. ⌜ writtenOf r ≡ onAccepted length (inRoom (length (now (out .entry))) (write End.Host number (groupValues group (now (values .entry))))) ⌝ }
-    ensures { λ r. ⌜ now (out .exit) ≡ outAfter (inRoom (length (now (out .entry))) (write End.Host number (groupValues group (now (values .entry))))) (now (out .entry)) ⌝ }
+    ensures { λ r. ⌜ writtenOf r ≡ onAccepted length (inRoom (length (now (out .entry))) (write End.Host number (counted (groupValues group (now (values .entry)))))) ⌝ }
+    ensures { λ r. ⌜ now (out .exit) ≡ outAfter (inRoom (length (now (out .entry))) (write End.Host number (counted (groupValues group (now (values .entry)))))) (now (out .entry)) ⌝ }
 {
     write(number, crate::group::reply_type(group), values, out)
+}
+
+// Writes the text of a text register, with the lent characters and this length half-byte.
+pub fn write_text(number: u8, half: u8, start: u8, characters: &[u8], out: &mut [u8]) -> Written
+    ensures { λ r. ⌜ writtenOf r ≡ onAccepted length (inRoom (length (now (out .entry))) (write End.Host number (text (record { half = half; start = start; characters = now (characters .entry) })))) ⌝ }
+    ensures { λ r. ⌜ now (out .exit) ≡ outAfter (inRoom (length (now (out .entry))) (write End.Host number (text (record { half = half; start = start; characters = now (characters .entry) })))) (now (out .entry)) ⌝ }
+{
+    if !is_number(number) {
+        return Written::Refused(Refusal::Field);
+    }
+    if !crate::text::is_allowed(half, start, characters) {
+        return Written::Refused(Refusal::Field);
+    }
+    let second = crate::frame::length_and_type(half as usize, DATA);
+    crate::text::write(number + REPLY, second, start, characters, out)
 }

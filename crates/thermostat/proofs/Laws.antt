@@ -7,3 +7,5 @@ pub mod Set
 pub mod Setpoints
 pub mod Step
 pub mod Temperature
+pub mod TextSet
+pub mod Texts

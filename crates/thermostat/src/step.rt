@@ -1,16 +1,18 @@
-// A step of the model thermostat: one message in, the map changed, the reply out.
+// A step of the model thermostat: one message in, the map and the text store changed, the reply out.
 ghost use mathlib.Core.Path.{_≡_};
 ghost use mathlib.Core.Bool.{true, cond};
 ghost use Prim.Native.Nat.{_+_, _<_, _≤_};
 ghost use lib.ListN.{length, take};
 ghost use Rattle.answer.specs.Answer.{accepted, onAccepted, outAfter, writtenOf};
-ghost use Rattle.omnistat.specs.Register.{runAllowed};
-ghost use Rattle.omnistat.specs.Message.{poll, setFrom, pollGroup, acknowledge, negative};
-ghost use Rattle.omnistat.specs.Omnistat.{addressed};
+ghost use Rattle.omnistat.specs.Register.{isText, pollAllowed};
+ghost use Rattle.omnistat.specs.Message.{poll, setFrom, pollGroup, acknowledge};
+ghost use Rattle.omnistat.specs.Omnistat.{counted, read};
 ghost use Rattle.thermostat.specs.Map.{stored};
-ghost use Rattle.thermostat.specs.Step.{isFor, allSettable, replyTo, replyBytes, sentBy, mapAfter, step, mapOf, sentOf};
+ghost use Rattle.thermostat.specs.Texts.{textStored, storeAllowed};
+ghost use Rattle.thermostat.specs.Step.{isFor, allSettable, registerReply, replyTo, changed, sentBy, after, done, step, mapOf, textsOf, sentOf};
 use answer::Refusal;
 use answer::Written;
+use omnistat::frame::End;
 use omnistat::group::Group;
 use omnistat::request::Request;
 
@@ -23,10 +25,12 @@ const UNIVERSAL: u8 = 0xFA;
 const FIRST_ADDRESS: u8 = 1;
 
 const LAST_ADDRESS: u8 = 127;
-// The least room for a reply, and the size of the map.
-const LEAST_ROOM: usize = 18;
+// The least room for a reply, and the sizes of the map and the text store.
+const LEAST_ROOM: usize = 65;
 
 const REGISTERS: usize = 256;
+
+const TEXTS: usize = 610;
 
 // Whether a message with this first byte is for this thermostat.
 fn is_heard(own: u8, first: u8) -> bool
@@ -67,107 +71,15 @@ fn change(map: &mut [u8], start: usize, values: &[u8]) -> bool
     true
 }
 
-// Answers a set: acknowledge where its values were taken, else negative.
-fn confirm(own: u8, taken: bool, out: &mut [u8]) -> Written
-    requires { ⌜ (1 ≤ own) × (own ≤ 127) ⌝ }
-    requires { ⌜ 18 ≤ length (now out) ⌝ }
-    ensures { λ r. ⌜ writtenOf r ≡ accepted (length (replyBytes own (cond taken acknowledge negative))) ⌝ }
-    ensures { λ r. ⌜ now (out .exit) ≡ outAfter (accepted (replyBytes own (cond taken acknowledge negative))) (now (out .entry)) ⌝ }
-{
-    if taken {
-        return omnistat::reply::write_acknowledge(own, out);
-    }
-    omnistat::reply::write_negative(own, out)
-}
-
-// Answers a poll: the contents where all of its registers are listed, else negative.
-fn report(own: u8, map: &[u8], start: u8, count: u8, out: &mut [u8]) -> Written
-    requires { ⌜ (1 ≤ own) × (own ≤ 127) ⌝ }
-    requires { ⌜ 18 ≤ length (now out) ⌝ }
-    requires { ⌜ length (now map) ≡ 256 ⌝ }
-    requires { ⌜ (1 ≤ count) × (count ≤ 14) ⌝ }
-    requires { ⌜ runAllowed start count ≡ true ⌝ }
-    ensures { λ r. ⌜ writtenOf r ≡ accepted (length (replyBytes own (replyTo (now (map .entry)) (poll start count)))) ⌝ }
-    ensures { λ r. ⌜ now (out .exit) ≡ outAfter (accepted (replyBytes own (replyTo (now (map .entry)) (poll start count)))) (now (out .entry)) ⌝ }
-{
-    let from = start as usize;
-    let n = count as usize;
-    let past = from + n;
-    if !crate::registers::are_listed(from, n) {
-        return omnistat::reply::write_negative(own, out);
-    }
-    omnistat::reply::write_data(own, start, &map[from..past], out)
-}
-
-// The registers of each group, in its order.
-fn report_first(own: u8, map: &[u8], out: &mut [u8]) -> Written
-    requires { ⌜ (1 ≤ own) × (own ≤ 127) ⌝ }
-    requires { ⌜ 18 ≤ length (now out) ⌝ }
-    requires { ⌜ length (now map) ≡ 256 ⌝ }
-    ensures { λ r. ⌜ writtenOf r ≡ accepted (length (replyBytes own (replyTo (now (map .entry)) (pollGroup Group.First)))) ⌝ }
-    ensures { λ r. ⌜ now (out .exit) ≡ outAfter (accepted (replyBytes own (replyTo (now (map .entry)) (pollGroup Group.First)))) (now (out .entry)) ⌝ }
-{
-    let values = [map[59], map[60], map[61], map[62], map[63], map[64]];
-    omnistat::reply::write_group(own, Group::First, &values, out)
-}
-
-fn report_second(own: u8, map: &[u8], out: &mut [u8]) -> Written
-    requires { ⌜ (1 ≤ own) × (own ≤ 127) ⌝ }
-    requires { ⌜ 18 ≤ length (now out) ⌝ }
-    requires { ⌜ length (now map) ≡ 256 ⌝ }
-    ensures { λ r. ⌜ writtenOf r ≡ accepted (length (replyBytes own (replyTo (now (map .entry)) (pollGroup Group.Second)))) ⌝ }
-    ensures { λ r. ⌜ now (out .exit) ≡ outAfter (accepted (replyBytes own (replyTo (now (map .entry)) (pollGroup Group.Second)))) (now (out .entry)) ⌝ }
-{
-    let values = [map[162], map[135], map[134], map[68], map[15], map[169]];
-    omnistat::reply::write_group(own, Group::Second, &values, out)
-}
-
-fn report_third(own: u8, map: &[u8], out: &mut [u8]) -> Written
-    requires { ⌜ (1 ≤ own) × (own ≤ 127) ⌝ }
-    requires { ⌜ 18 ≤ length (now out) ⌝ }
-    requires { ⌜ length (now map) ≡ 256 ⌝ }
-    ensures { λ r. ⌜ writtenOf r ≡ accepted (length (replyBytes own (replyTo (now (map .entry)) (pollGroup Group.Third)))) ⌝ }
-    ensures { λ r. ⌜ now (out .exit) ≡ outAfter (accepted (replyBytes own (replyTo (now (map .entry)) (pollGroup Group.Third)))) (now (out .entry)) ⌝ }
-{
-    let values = [
-        map[169],
-        map[18],
-        map[19],
-        map[20],
-        map[74],
-        map[170],
-        map[171],
-        map[165],
-        map[166],
-        map[167],
-    ];
-    omnistat::reply::write_group(own, Group::Third, &values, out)
-}
-
-// Answers a poll of a group.
-fn report_group(own: u8, map: &[u8], group: Group, out: &mut [u8]) -> Written
-    requires { ⌜ (1 ≤ own) × (own ≤ 127) ⌝ }
-    requires { ⌜ 18 ≤ length (now out) ⌝ }
-    requires { ⌜ length (now map) ≡ 256 ⌝ }
-    ensures { λ r. ⌜ writtenOf r ≡ accepted (length (replyBytes own (replyTo (now (map .entry)) (pollGroup group)))) ⌝ }
-    ensures { λ r. ⌜ now (out .exit) ≡ outAfter (accepted (replyBytes own (replyTo (now (map .entry)) (pollGroup group)))) (now (out .entry)) ⌝ }
-{
-    match group {
-        Group::First => report_first(own, map, out),
-        Group::Second => report_second(own, map, out),
-        Group::Third => report_third(own, map, out),
-    }
-}
-
 // Acts on a set and answers it.
 fn on_set(own: u8, map: &mut [u8], first: u8, start: u8, values: &[u8], out: &mut [u8]) -> Written
     requires { ⌜ (1 ≤ own) × (own ≤ 127) ⌝ }
     requires { ⌜ 18 ≤ length (now out) ⌝ }
     requires { ⌜ length (now map) ≡ 256 ⌝ }
     requires { ⌜ start + length (now values) ≤ 256 ⌝ }
-    ensures { λ r. ⌜ writtenOf r ≡ accepted (length (sentBy own (now (map .entry)) (addressed first (setFrom start (now (values .entry)))))) ⌝ }
-    ensures { λ r. ⌜ now (map .exit) ≡ mapAfter own (now (map .entry)) (addressed first (setFrom start (now (values .entry)))) ⌝ }
-    ensures { λ r. ⌜ now (out .exit) ≡ outAfter (accepted (sentBy own (now (map .entry)) (addressed first (setFrom start (now (values .entry)))))) (now (out .entry)) ⌝ }
+    ensures { λ r. ⌜ writtenOf r ≡ accepted (length (sentBy own first (counted (registerReply (now (map .entry)) (setFrom start (now (values .entry))))))) ⌝ }
+    ensures { λ r. ⌜ now (map .exit) ≡ after own first (changed (now (map .entry)) (counted (setFrom start (now (values .entry))))) (now (map .entry)) ⌝ }
+    ensures { λ r. ⌜ now (out .exit) ≡ outAfter (accepted (sentBy own first (counted (registerReply (now (map .entry)) (setFrom start (now (values .entry))))))) (now (out .entry)) ⌝ }
 {
     if !is_heard(own, first) {
         return Written::Count(0);
@@ -176,18 +88,55 @@ fn on_set(own: u8, map: &mut [u8], first: u8, start: u8, values: &[u8], out: &mu
     if first == BROADCAST {
         return Written::Count(0);
     }
-    confirm(own, taken, out)
+    crate::report::confirm(own, taken, out)
 }
 
-// Answers a poll.
-fn on_poll(own: u8, map: &[u8], first: u8, start: u8, count: u8, out: &mut [u8]) -> Written
+// Stores a text and acknowledges it.
+fn on_text(
+    own: u8,
+    texts: &mut [u8],
+    first: u8,
+    start: u8,
+    characters: &[u8],
+    out: &mut [u8],
+) -> Written
     requires { ⌜ (1 ≤ own) × (own ≤ 127) ⌝ }
     requires { ⌜ 18 ≤ length (now out) ⌝ }
+    requires { ⌜ length (now texts) ≡ 610 ⌝ }
+    requires { ⌜ isText start ≡ true ⌝ }
+    requires { ⌜ length (now characters) ≤ 60 ⌝ }
+    ensures { λ r. ⌜ writtenOf r ≡ accepted (length (sentBy own first (counted acknowledge))) ⌝ }
+    ensures { λ r. ⌜ now (texts .exit) ≡ after own first (textStored (now (texts .entry)) start (now (characters .entry))) (now (texts .entry)) ⌝ }
+    ensures { λ r. ⌜ now (out .exit) ≡ outAfter (accepted (sentBy own first (counted acknowledge))) (now (out .entry)) ⌝ }
+{
+    if !is_heard(own, first) {
+        return Written::Count(0);
+    }
+    crate::texts::store_text(texts, start, characters);
+    if first == BROADCAST {
+        return Written::Count(0);
+    }
+    omnistat::reply::write_acknowledge(own, out)
+}
+
+// Answers a poll of registers or of a text.
+fn on_poll(
+    own: u8,
+    map: &[u8],
+    texts: &[u8],
+    first: u8,
+    start: u8,
+    count: u8,
+    out: &mut [u8],
+) -> Written
+    requires { ⌜ (1 ≤ own) × (own ≤ 127) ⌝ }
+    requires { ⌜ 65 ≤ length (now out) ⌝ }
     requires { ⌜ length (now map) ≡ 256 ⌝ }
-    requires { ⌜ (1 ≤ count) × (count ≤ 14) ⌝ }
-    requires { ⌜ runAllowed start count ≡ true ⌝ }
-    ensures { λ r. ⌜ writtenOf r ≡ accepted (length (sentBy own (now (map .entry)) (addressed first (poll start count)))) ⌝ }
-    ensures { λ r. ⌜ now (out .exit) ≡ outAfter (accepted (sentBy own (now (map .entry)) (addressed first (poll start count)))) (now (out .entry)) ⌝ }
+    requires { ⌜ length (now texts) ≡ 610 ⌝ }
+    requires { ⌜ storeAllowed (now texts) ≡ true ⌝ }
+    requires { ⌜ pollAllowed start count ≡ true ⌝ }
+    ensures { λ r. ⌜ writtenOf r ≡ accepted (length (sentBy own first (replyTo (now (map .entry)) (now (texts .entry)) (counted (poll start count))))) ⌝ }
+    ensures { λ r. ⌜ now (out .exit) ≡ outAfter (accepted (sentBy own first (replyTo (now (map .entry)) (now (texts .entry)) (counted (poll start count))))) (now (out .entry)) ⌝ }
 {
     if !is_heard(own, first) {
         return Written::Count(0);
@@ -195,7 +144,10 @@ fn on_poll(own: u8, map: &[u8], first: u8, start: u8, count: u8, out: &mut [u8])
     if first == BROADCAST {
         return Written::Count(0);
     }
-    report(own, map, start, count, out)
+    if omnistat::text::is_text(start) {
+        return crate::report::report_text(own, texts, start, out);
+    }
+    crate::report::report(own, map, start, count, out)
 }
 
 // Answers a poll of a group.
@@ -203,8 +155,8 @@ fn on_group(own: u8, map: &[u8], first: u8, group: Group, out: &mut [u8]) -> Wri
     requires { ⌜ (1 ≤ own) × (own ≤ 127) ⌝ }
     requires { ⌜ 18 ≤ length (now out) ⌝ }
     requires { ⌜ length (now map) ≡ 256 ⌝ }
-    ensures { λ r. ⌜ writtenOf r ≡ accepted (length (sentBy own (now (map .entry)) (addressed first (pollGroup group)))) ⌝ }
-    ensures { λ r. ⌜ now (out .exit) ≡ outAfter (accepted (sentBy own (now (map .entry)) (addressed first (pollGroup group)))) (now (out .entry)) ⌝ }
+    ensures { λ r. ⌜ writtenOf r ≡ accepted (length (sentBy own first (counted (registerReply (now (map .entry)) (pollGroup group))))) ⌝ }
+    ensures { λ r. ⌜ now (out .exit) ≡ outAfter (accepted (sentBy own first (counted (registerReply (now (map .entry)) (pollGroup group))))) (now (out .entry)) ⌝ }
 {
     if !is_heard(own, first) {
         return Written::Count(0);
@@ -212,34 +164,28 @@ fn on_group(own: u8, map: &[u8], first: u8, group: Group, out: &mut [u8]) -> Wri
     if first == BROADCAST {
         return Written::Count(0);
     }
-    report_group(own, map, group, out)
+    crate::report::report_group(own, map, group, out)
 }
 
-// One step: a message in, the map changed, the reply out. The checks come in the paper's order: 9, 8, then the reader's answers.
-pub fn step(own: u8, map: &mut [u8], bytes: &[u8], out: &mut [u8]) -> Written
-    ensures { λ r. ⌜ writtenOf r ≡ onAccepted length (sentOf (step own (now (map .entry)) (now (bytes .entry)) (length (now (out .entry))))) ⌝ }
-    ensures { λ r. ⌜ now (map .exit) ≡ mapOf (step own (now (map .entry)) (now (bytes .entry)) (length (now (out .entry)))) (now (map .entry)) ⌝ }
-    ensures { λ r. ⌜ now (out .exit) ≡ outAfter (sentOf (step own (now (map .entry)) (now (bytes .entry)) (length (now (out .entry))))) (now (out .entry)) ⌝ }
+// Reads a message, acts on it and answers it.
+fn act(own: u8, map: &mut [u8], texts: &mut [u8], bytes: &[u8], out: &mut [u8]) -> Written
+    requires { ⌜ (1 ≤ own) × (own ≤ 127) ⌝ }
+    requires { ⌜ 65 ≤ length (now out) ⌝ }
+    requires { ⌜ length (now map) ≡ 256 ⌝ }
+    requires { ⌜ length (now texts) ≡ 610 ⌝ }
+    requires { ⌜ storeAllowed (now texts) ≡ true ⌝ }
+    ensures { λ r. ⌜ writtenOf r ≡ onAccepted length (sentOf (onAccepted (done own (now (map .entry)) (now (texts .entry))) (read End.Thermostat (now (bytes .entry))))) ⌝ }
+    ensures { λ r. ⌜ now (map .exit) ≡ mapOf (onAccepted (done own (now (map .entry)) (now (texts .entry))) (read End.Thermostat (now (bytes .entry)))) (now (map .entry)) ⌝ }
+    ensures { λ r. ⌜ now (texts .exit) ≡ textsOf (onAccepted (done own (now (map .entry)) (now (texts .entry))) (read End.Thermostat (now (bytes .entry)))) (now (texts .entry)) ⌝ }
+    ensures { λ r. ⌜ now (out .exit) ≡ outAfter (sentOf (onAccepted (done own (now (map .entry)) (now (texts .entry))) (read End.Thermostat (now (bytes .entry))))) (now (out .entry)) ⌝ }
 {
-    if out.len() < LEAST_ROOM {
-        return Written::Refused(Refusal::Room);
-    }
-    if map.len() != REGISTERS {
-        return Written::Refused(Refusal::Room);
-    }
-    if own < FIRST_ADDRESS {
-        return Written::Refused(Refusal::Field);
-    }
-    if LAST_ADDRESS < own {
-        return Written::Refused(Refusal::Field);
-    }
     match omnistat::request::read(bytes) {
         Request::Refused(r) => Written::Refused(r),
         Request::Poll {
             first,
             start,
             count,
-        } => on_poll(own, map, first, start, count, out),
+        } => on_poll(own, map, texts, first, start, count, out),
         Request::Set {
             first,
             start,
@@ -253,5 +199,47 @@ pub fn step(own: u8, map: &mut [u8], bytes: &[u8], out: &mut [u8]) -> Written
             out,
         ),
         Request::PollGroup { first, group } => on_group(own, map, first, group, out),
+        Request::Text {
+            first,
+            half: _,
+            start,
+            count,
+        } => on_text(
+            own,
+            texts,
+            first,
+            start,
+            omnistat::request::values(bytes, count),
+            out,
+        ),
     }
+}
+
+// One step: a message in, the map and the text store changed, the reply out. The checks come in the paper's order: 9, 8, then the reader's
+// answers.
+pub fn step(own: u8, map: &mut [u8], texts: &mut [u8], bytes: &[u8], out: &mut [u8]) -> Written
+    ensures { λ r. ⌜ writtenOf r ≡ onAccepted length (sentOf (step own (now (map .entry)) (now (texts .entry)) (now (bytes .entry)) (length (now (out .entry))))) ⌝ }
+    ensures { λ r. ⌜ now (map .exit) ≡ mapOf (step own (now (map .entry)) (now (texts .entry)) (now (bytes .entry)) (length (now (out .entry)))) (now (map .entry)) ⌝ }
+    ensures { λ r. ⌜ now (texts .exit) ≡ textsOf (step own (now (map .entry)) (now (texts .entry)) (now (bytes .entry)) (length (now (out .entry)))) (now (texts .entry)) ⌝ }
+    ensures { λ r. ⌜ now (out .exit) ≡ outAfter (sentOf (step own (now (map .entry)) (now (texts .entry)) (now (bytes .entry)) (length (now (out .entry))))) (now (out .entry)) ⌝ }
+{
+    if out.len() < LEAST_ROOM {
+        return Written::Refused(Refusal::Room);
+    }
+    if map.len() != REGISTERS {
+        return Written::Refused(Refusal::Room);
+    }
+    if texts.len() != TEXTS {
+        return Written::Refused(Refusal::Room);
+    }
+    if own < FIRST_ADDRESS {
+        return Written::Refused(Refusal::Field);
+    }
+    if LAST_ADDRESS < own {
+        return Written::Refused(Refusal::Field);
+    }
+    if !crate::texts::is_allowed(texts) {
+        return Written::Refused(Refusal::Field);
+    }
+    act(own, map, texts, bytes, out)
 }

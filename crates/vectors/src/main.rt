@@ -41,7 +41,7 @@ fn named(line: &[u8], names: &[u8]) -> u64 {
 fn call_of(line: &[u8]) -> u64 {
     named(
         line,
-        b"read places\nread frame\nread message\nat thermostat\nat host\nstep\ntemperatures\ncost\ntally\nlisting\nwrite unit\nwrite function\nwrite extended\nwrite frame\nwrite message\nto thermostat\nto host\n",
+        b"read places\nread frame\nread message\nat thermostat\nat host\nstep\ntemperatures\ncost\ntally\nlisting\nwrite unit\nwrite function\nwrite extended\nwrite frame\nwrite message\nto thermostat\nto host\ntext to thermostat\ntext to host\n",
     )
 }
 
@@ -69,7 +69,7 @@ fn answer_call(call: u64, bytes: &[u8]) {
         8 => model::tally(bytes),
         9 => captures::list(bytes),
         10..=12 => patterns::write(call, bytes),
-        13..=16 => writers::write(call, bytes),
+        13..=18 => writers::write(call, bytes),
         _ => {}
     }
 }

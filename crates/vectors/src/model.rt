@@ -14,7 +14,16 @@ ghost use Rattle.tally.specs.Total.{nextTotal, addedOf};
 const REGISTERS: usize = 256;
 
 // The most bytes of a reply.
-const ROOM: usize = 18;
+const ROOM: usize = 65;
+
+// The text store: ten texts of a count byte and 60 bytes, from register 172 up.
+const TEXTS: usize = 610;
+
+const TEXT: usize = 61;
+
+const FIRST_TEXT: u64 = 172;
+
+const FIRST_DIGIT: u64 = 48;
 
 const LAST_BYTE: u8 = 255;
 
@@ -47,13 +56,53 @@ fn changes(map: &[u8]) {
     }
 }
 
-// Own address, then the message. The map starts with each register holding its number.
+// A store of ten texts with one character: 0 in the first, up to 9 in the last.
+fn digits() -> [u8; TEXTS] {
+    let mut texts = [0u8; TEXTS];
+    let mut i: u8 = 0;
+    while i < 10 {
+        let at = i as usize * TEXT;
+        texts[at] = 1;
+        texts[at + 1] = b'0' + i;
+        i += 1;
+    }
+    texts
+}
+
+// A text of such a store, where it is no longer the digit: its bytes within its count.
+fn changed_text(i: u8, text: &[u8]) {
+    if byte(text, 0) == 1 {
+        if wide(byte(text, 1)) == FIRST_DIGIT + i as u64 {
+            return;
+        }
+    }
+    show(b", text %1 is", (FIRST_TEXT + i as u64) % 256 * 256, text);
+    show(b"+1", byte(text, 0) as u64 * 256, rest(text, 1));
+}
+
+fn changed_texts(texts: &[u8]) {
+    let mut i: u8 = 0;
+    while i < 10 {
+        changed_text(i, rest(texts, i as usize * TEXT));
+        i += 1;
+    }
+}
+
+// Own address, then the message. The map starts with each register holding its number, the text store with a digit in each text.
 pub(crate) fn step(bytes: &[u8]) {
     let mut map = numbered();
+    let mut texts = digits();
     let mut out = [0u8; ROOM];
-    let r = host::model::thermostat_step(byte(bytes, 0), &mut map, rest(bytes, 1), &mut out);
+    let r = host::model::thermostat_step(
+        byte(bytes, 0),
+        &mut map,
+        &mut texts,
+        rest(bytes, 1),
+        &mut out,
+    );
     show(b"{1 silence}~1 reply+1}", r, &out);
     changes(&map);
+    changed_texts(&texts);
 }
 
 // The whole part of a number from 0 to below 2^64.

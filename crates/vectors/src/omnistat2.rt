@@ -1,8 +1,40 @@
 // Omnistat2 messages, read at both ends.
+use crate::output::field;
 use crate::output::show;
 
+// The registers that hold text.
+const FIRST_TEXT: u64 = 172;
+
+const LAST_TEXT: u64 = 181;
+
+const SET: u64 = 1;
+
+const DATA: u64 = 2;
+
+// Whether an answer is a text: a set or data from a text register.
+fn is_text(answer: u64, kind: u64) -> bool {
+    if field(answer, 1) != kind {
+        return false;
+    }
+    if field(answer, 3) < FIRST_TEXT {
+        return false;
+    }
+    field(answer, 3) <= LAST_TEXT
+}
+
+// A text in its form, any other message in the other.
+fn show_message(kind: u64, text: &[u8], form: &[u8], answer: u64, bytes: &[u8]) {
+    if is_text(answer, kind) {
+        show(text, answer, bytes);
+    } else {
+        show(form, answer, bytes);
+    }
+}
+
 pub(crate) fn at_thermostat(bytes: &[u8]) {
-    show(
+    show_message(
+        SET,
+        b" text %3, half-byte %5, characters$4, to #2",
         b"{1 poll registers from %3, count %4| set registers from %3, count %4, values$4| poll group 1| poll group 2| poll group 3}, to #2",
         host::omnistat2::omnistat_read_at_thermostat(bytes),
         bytes,
@@ -10,7 +42,9 @@ pub(crate) fn at_thermostat(bytes: &[u8]) {
 }
 
 pub(crate) fn at_host(bytes: &[u8]) {
-    show(
+    show_message(
+        DATA,
+        b" text %3, half-byte %5, characters$4, from %2",
         b"{1 acknowledge| negative| data registers from %3, count %4, values$4| group 1, values!4| group 2, values!4| group 3, values!4}, from %2",
         host::omnistat2::omnistat_read_at_host(bytes),
         bytes,

@@ -13,13 +13,32 @@ const WRITE_MESSAGE: u64 = 14;
 
 const TO_THERMOSTAT: u64 = 15;
 
+const TO_HOST: u64 = 16;
+
+const TEXT_TO_THERMOSTAT: u64 = 17;
+
+// By the call: an address or a number, a length half-byte, a text register and characters.
+fn write_text(call: u64, first: u8, half: u8, start: u8, characters: &[u8], out: &mut [u8]) -> u64 {
+    if call == TEXT_TO_THERMOSTAT {
+        return host::omnistat2::omnistat_write_text_to_thermostat(
+            first,
+            half,
+            start,
+            characters,
+            out,
+        );
+    }
+    host::omnistat2::omnistat_write_text_to_host(first, half, start, characters, out)
+}
+
 // By the call: a type and data bytes, or an address or a number, a type and data bytes. The data bytes are behind one byte, or behind two.
 fn write_to(call: u64, first: u8, second: u8, one: &[u8], two: &[u8], out: &mut [u8]) -> u64 {
     match call {
         WRITE_FRAME => host::omnilink::omnilink_frame_write(first, one, out),
         WRITE_MESSAGE => host::messages::omnilink_message_write(first, one, out),
         TO_THERMOSTAT => host::omnistat2::omnistat_write_to_thermostat(first, second, two, out),
-        _ => host::omnistat2::omnistat_write_to_host(first, second, two, out),
+        TO_HOST => host::omnistat2::omnistat_write_to_host(first, second, two, out),
+        _ => write_text(call, first, second, byte(two, 0), rest(two, 1), out),
     }
 }
 

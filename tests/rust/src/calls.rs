@@ -61,10 +61,30 @@ mod gateway {
             out: *mut u8,
             room: usize,
         ) -> u64;
+        pub fn omnistat_write_text_to_thermostat(
+            address: u64,
+            half: u64,
+            start: u64,
+            text: *const u8,
+            len: usize,
+            out: *mut u8,
+            room: usize,
+        ) -> u64;
+        pub fn omnistat_write_text_to_host(
+            number: u64,
+            half: u64,
+            start: u64,
+            text: *const u8,
+            len: usize,
+            out: *mut u8,
+            room: usize,
+        ) -> u64;
         pub fn thermostat_step(
             own: u64,
             map: *mut u8,
             map_len: usize,
+            texts: *mut u8,
+            texts_len: usize,
             bytes: *const u8,
             len: usize,
             out: *mut u8,
@@ -188,15 +208,48 @@ pub fn omnistat_write_to_host(number: u8, kind: u8, data: Lent, out: Lent) -> u6
     }
 }
 
-pub fn thermostat_step(own: u8, map: Lent, b: Lent, out: Lent) -> u64 {
-    let (bytes, len) = (b.pointer, b.len);
+pub fn omnistat_write_text_to_thermostat(
+    [address, half, start]: [u8; 3],
+    text: Lent,
+    out: Lent,
+) -> u64 {
+    unsafe {
+        gateway::omnistat_write_text_to_thermostat(
+            byte(address),
+            byte(half),
+            byte(start),
+            text.pointer,
+            text.len,
+            out.pointer,
+            out.len,
+        )
+    }
+}
+
+pub fn omnistat_write_text_to_host([number, half, start]: [u8; 3], text: Lent, out: Lent) -> u64 {
+    unsafe {
+        gateway::omnistat_write_text_to_host(
+            byte(number),
+            byte(half),
+            byte(start),
+            text.pointer,
+            text.len,
+            out.pointer,
+            out.len,
+        )
+    }
+}
+
+pub fn thermostat_step(own: u8, map: Lent, texts: Lent, b: Lent, out: Lent) -> u64 {
     unsafe {
         gateway::thermostat_step(
             byte(own),
             map.pointer,
             map.len,
-            bytes,
-            len,
+            texts.pointer,
+            texts.len,
+            b.pointer,
+            b.len,
             out.pointer,
             out.len,
         )

@@ -2,7 +2,7 @@
 
 use crate::calls::{self, Setpoints};
 use crate::guard::{self, Lent, Region};
-use crate::paper::{self, Answer};
+use crate::paper::{self, Answer, Body, State};
 use crate::random::Random;
 
 #[derive(Clone, Copy)]
@@ -20,6 +20,8 @@ pub enum Call {
     ReadAtHost,
     WriteToThermostat,
     WriteToHost,
+    WriteTextToThermostat,
+    WriteTextToHost,
     Step,
     Celsius,
     FahrenheitTenths,
@@ -37,8 +39,8 @@ pub enum Call {
 const MESSAGE_READER: &[u8] = &[1, 2, 3, 4, 5, 6, 7, 8];
 const OMNISTAT_READER: &[u8] = &[1, 2, 4, 5, 6, 7, 8];
 
-/// The calls in the order of `Call`, each with the refusals that document 01 names for it.
-pub const CALLS: [(&str, &[u8]); 25] = [
+/// The calls in the order of `Call`, each with the refusals that documents 01 and 02 name for it.
+pub const CALLS: [(&str, &[u8]); 27] = [
     ("omnilink_frame_read", &[1, 2, 3, 4, 5]),
     ("omnilink_frame_write", &[3, 9]),
     ("omnilink_message_read", MESSAGE_READER),
@@ -52,6 +54,8 @@ pub const CALLS: [(&str, &[u8]); 25] = [
     ("omnistat_read_at_host", OMNISTAT_READER),
     ("omnistat_write_to_thermostat", &[6, 7, 8, 9]),
     ("omnistat_write_to_host", &[6, 7, 8, 9]),
+    ("omnistat_write_text_to_thermostat", &[8, 9]),
+    ("omnistat_write_text_to_host", &[8, 9]),
     ("thermostat_step", &[1, 2, 4, 5, 6, 7, 8, 9]),
     ("temperature_celsius", &[]),
     ("temperature_fahrenheit_tenths", &[]),
@@ -75,6 +79,7 @@ pub struct Compare {
     input: Region,
     output: Region,
     map: Region,
+    texts: Region,
     random: Random,
     /// Where the content of a lent output before the call is taken from.
     prior: Vec<u8>,
@@ -108,6 +113,7 @@ impl Compare {
             input: Region::new(4, random.next()),
             output: Region::new(PRIOR / 4096 + 1, random.next()),
             map: Region::new(1, random.next()),
+            texts: Region::new(1, random.next()),
             prior: random.bytes(PRIOR),
             random,
             counts: [[0; 12]; CALLS.len()],
@@ -122,6 +128,7 @@ impl Compare {
         self.input.reseed(self.random.next());
         self.output.reseed(self.random.next());
         self.map.reseed(self.random.next());
+        self.texts.reseed(self.random.next());
         calls::reseed(self.random.next());
         self.prior = self.random.bytes(PRIOR);
     }
@@ -297,10 +304,14 @@ impl Compare {
     }
 
     pub fn read_at_thermostat(&mut self, bytes: &[u8]) {
-        let right = paper::read_at_thermostat(bytes).map(|(first, kind, data)| match kind {
-            0 => [kind, first, data[0], data[1]],
-            1 => [kind, first, data[0], data.len() as u8 - 1],
-            _ => [kind, first, 0, 0],
+        let right = paper::read_at_thermostat(bytes).map(|read| {
+            let [start, count, half] = match (read.kind, read.body) {
+                (0, Body::Data(data)) => [data[0], data[1], 0],
+                (1, Body::Data(data)) => [data[0], data.len() as u8 - 1, 0],
+                (_, Body::Data(_)) => [0; 3],
+                (_, Body::Text(half, register, text)) => [register, text.len() as u8, half],
+            };
+            [read.kind, read.first, start, count, half]
         });
         let right = packed(right);
         self.reads(
@@ -312,10 +323,13 @@ impl Compare {
     }
 
     pub fn read_at_host(&mut self, bytes: &[u8]) {
-        let right = paper::read_at_host(bytes).map(|(number, kind, data)| match kind {
-            0 | 1 => [kind, number, 0, 0],
-            2 => [kind, number, data[0], data.len() as u8 - 1],
-            _ => [kind, number, 0, data.len() as u8],
+        let right = paper::read_at_host(bytes).map(|read| {
+            let [start, count, half] = match (read.kind, read.body) {
+                (2, Body::Data(data)) => [data[0], data.len() as u8 - 1, 0],
+                (_, Body::Data(data)) => [0, data.len() as u8, 0],
+                (_, Body::Text(half, register, text)) => [register, text.len() as u8, half],
+            };
+            [read.kind, read.first, start, count, half]
         });
         let right = packed(right);
         self.reads(Call::ReadAtHost, bytes, right, calls::omnistat_read_at_host);
@@ -337,31 +351,55 @@ impl Compare {
         });
     }
 
-    /// A step; `map` is changed as document 01 says.
-    pub fn step(&mut self, own: u8, map: &mut [u8], bytes: &[u8], room: usize) {
+    pub fn write_text_to_thermostat(&mut self, numbers: [u8; 3], text: &[u8], room: usize) {
+        let right = paper::write_text_to_thermostat(numbers, text, room);
+        let arguments = (&numbers[..], text);
+        self.writes(
+            Call::WriteTextToThermostat,
+            arguments,
+            room,
+            right,
+            |t, out| calls::omnistat_write_text_to_thermostat(numbers, t, out),
+        );
+    }
+
+    pub fn write_text_to_host(&mut self, numbers: [u8; 3], text: &[u8], room: usize) {
+        let right = paper::write_text_to_host(numbers, text, room);
+        let arguments = (&numbers[..], text);
+        self.writes(Call::WriteTextToHost, arguments, room, right, |t, out| {
+            calls::omnistat_write_text_to_host(numbers, t, out)
+        });
+    }
+
+    /// A step; `state` is changed as the documents say.
+    pub fn step(&mut self, own: u8, state: &mut State, bytes: &[u8], room: usize) {
         let from = self.random.below(PRIOR - room + 1);
         let prior = &self.prior[from..from + room];
         let lent = self.input.lend(bytes);
         let out = self.output.lend(prior);
-        let lent_map = self.map.lend(map);
+        let lent_map = self.map.lend(&state.map);
+        let lent_texts = self.texts.lend(&state.texts);
         guard::announce(CALLS[Call::Step as usize].0, lent, self.passed, self.failed);
-        let right = paper::step(own, map, bytes, room);
-        let got = calls::thermostat_step(own, lent_map, lent, out);
+        let right = paper::step(own, state, bytes, room);
+        let got = calls::thermostat_step(own, lent_map, lent_texts, lent, out);
         let written = right.as_deref().unwrap_or(&[]);
         let right = valued(right.as_ref().map(|w| w.len() as u64).map_err(|&n| n));
         let same = self.output.holds(out, written, &prior[written.len()..])
-            && self.map.holds(lent_map, map, &[])
+            && self.map.holds(lent_map, &state.map, &[])
+            && self.texts.holds(lent_texts, &state.texts, &[])
             && self.input.holds(lent, bytes, &[]);
         let agrees = got == right && same;
         let told = if agrees {
             String::new()
         } else {
-            let (input, written, map) = (hex(bytes), hex(written), hex(map));
+            let (input, prior, written) = (hex(bytes), hex(prior), hex(written));
+            let (map, texts) = (hex(&state.map), hex(&state.texts));
             let output = hex(&self.output.content(out));
             let got_map = hex(&self.map.content(lent_map));
+            let got_texts = hex(&self.texts.content(lent_texts));
             format!(
-                "own {own}, input {input}, output before {}, expected {right:#X} {written}, map {map}, got {got:#X}, output {output}, map {got_map}",
-                hex(prior)
+                "own {own}, input {input}, output before {prior}, expected {right:#X} {written}, map {map}, texts {texts}, \
+                 got {got:#X}, output {output}, map {got_map}, texts {got_texts}"
             )
         };
         self.judge(Call::Step, right, agrees, || told);

@@ -187,7 +187,7 @@ impl Long {
     /// The first bytes.
     pub fn first(&mut self) -> &mut [u8] {
         // SAFETY: open memory that nothing else refers to while no call runs.
-        unsafe { std::slice::from_raw_parts_mut(self.start, 512) }
+        unsafe { std::slice::from_raw_parts_mut(self.start, 1024) }
     }
 }
 

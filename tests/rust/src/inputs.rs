@@ -1,7 +1,7 @@
 //! Inputs aimed at every answer: whole frames, messages and patterns, and damaged ones.
 
 use crate::compare::Compare;
-use crate::paper;
+use crate::paper::{self, State};
 use crate::random::Random;
 
 pub const OMNILINK_TYPES: [u8; 14] = [
@@ -200,6 +200,123 @@ fn omnistat_bytes(random: &mut Random, first: u8, (kind, mut data): (u8, Vec<u8>
     bytes
 }
 
+/// A byte that is no character, or the 03 that ends a text.
+fn no_character(random: &mut Random) -> u8 {
+    match random.below(4) {
+        0 => random.byte_from(0x00, 0x1F),
+        1 => random.byte_from(0x7F, 0xFF),
+        _ => random.pick(&[0x03, 0x1F, 0x7F, 0x00, 0xFF]),
+    }
+}
+
+/// Characters, often as many as fit or one more; in some a byte is wrong.
+fn text(random: &mut Random) -> Vec<u8> {
+    let count = match random.below(4) {
+        0 => random.pick(&[0, 1, 59, 60, 61, 62]),
+        1 => random.below(80),
+        _ => random.below(30),
+    };
+    let mut text: Vec<u8> = (0..count).map(|_| random.byte_from(0x20, 0x7E)).collect();
+    if count > 0 && random.once_in(4) {
+        text[random.below(count)] = no_character(random);
+    }
+    text
+}
+
+/// A register, mostly one that holds text.
+fn text_register(random: &mut Random) -> u8 {
+    if random.once_in(8) {
+        return random.pick(&[170, 171, 182, 183, 59, 0, 255]);
+    }
+    random.byte_from(172, 181)
+}
+
+/// The bytes of a text, whole, cut, with more behind it, with no 03 in its place, or damaged; the sum is often made right again.
+fn text_bytes(random: &mut Random, first: u8, kind: u8) -> Vec<u8> {
+    let (half, register, text) = (random.byte_from(0, 15), text_register(random), text(random));
+    let mut bytes = paper::omnistat_text(first, kind, half, register, &text);
+    match random.below(12) {
+        0 => bytes.truncate(random.below(bytes.len())),
+        1 => bytes.truncate(bytes.len() - random.from(1, 2)),
+        2 => {
+            let count = random.from(1, 70);
+            bytes.extend(random.bytes(count));
+        }
+        3 => {
+            let end = bytes.len() - 2;
+            bytes[end] = random.byte_from(0x20, 0x7E);
+        }
+        4 => damage(random, &mut bytes),
+        _ => (),
+    }
+    if bytes.len() > 3 && random.once_in(4) {
+        let last = bytes.len() - 1;
+        bytes[last] = paper::sum(&bytes[..last]);
+    }
+    bytes
+}
+
+/// A message to a thermostat: registers, groups, texts and polls of texts.
+fn request_bytes(random: &mut Random, first: u8) -> Vec<u8> {
+    match random.below(6) {
+        0 | 1 => text_bytes(random, first, 1),
+        2 => {
+            let count = random.pick(&[1, 1, 1, 1, 0, 2, 14, 255]);
+            let poll = vec![text_register(random), count];
+            omnistat_bytes(random, first, (0, poll))
+        }
+        _ => {
+            let message = to_thermostat(random);
+            omnistat_bytes(random, first, message)
+        }
+    }
+}
+
+/// A reply: registers, groups and texts.
+fn reply_bytes(random: &mut Random, first: u8) -> Vec<u8> {
+    if random.once_in(3) {
+        return text_bytes(random, first, 2);
+    }
+    let reply = to_host(random);
+    omnistat_bytes(random, first, reply)
+}
+
+/// A text store: any counts, any characters, and past them anything.
+pub fn store(random: &mut Random) -> Vec<u8> {
+    let mut texts = random.bytes(paper::STORE);
+    for held in texts.chunks_mut(paper::HELD) {
+        let any = random.below(61);
+        let count = random.pick(&[0, 1, 9, 59, 60, any]);
+        held[0] = count as u8;
+        for character in &mut held[1..=count] {
+            *character = 0x20 + *character % 0x5F;
+        }
+    }
+    texts
+}
+
+/// Makes a byte of a store wrong: mostly a count, or one that may stand within a count.
+fn damage_store(random: &mut Random, texts: &mut [u8]) {
+    let at = random.below(10) * paper::HELD;
+    match random.below(4) {
+        0 => texts[at] = random.byte_from(61, 255),
+        1 => texts[at] = 61,
+        2 => texts[at + random.from(1, 60)] = no_character(random),
+        _ => {
+            let count = random.from(1, 60);
+            texts[at] = count as u8;
+            texts[at + random.pick(&[1, count, count.min(59) + 1])] = no_character(random);
+        }
+    }
+}
+
+pub fn state(random: &mut Random) -> State {
+    State {
+        map: random.bytes(256),
+        texts: store(random),
+    }
+}
+
 /// A first byte that a thermostat takes, with few exceptions.
 fn address(random: &mut Random, own: u8) -> u8 {
     match random.below(8) {
@@ -300,10 +417,11 @@ fn places(random: &mut Random) -> Vec<u8> {
 }
 
 /// One round of random inputs to every call.
-pub fn round(compare: &mut Compare, random: &mut Random, map: &mut [u8]) {
+pub fn round(compare: &mut Compare, random: &mut Random, state: &mut State) {
     omnilink(compare, random);
     omnistat(compare, random);
-    thermostat(compare, random, map);
+    texts(compare, random);
+    thermostat(compare, random, state);
     numbers(compare, random);
     x10(compare, random);
 }
@@ -332,14 +450,12 @@ fn omnilink(compare: &mut Compare, random: &mut Random) {
 fn omnistat(compare: &mut Compare, random: &mut Random) {
     for _ in 0..2 {
         let own = random.byte_from(1, 127);
-        let message = to_thermostat(random);
         let first = address(random, own);
-        let bytes = omnistat_bytes(random, first, message);
+        let bytes = request_bytes(random, first);
         compare.read_at_thermostat(&bytes);
         compare.read_at_host(&bytes);
-        let reply = to_host(random);
         let first = address(random, own + 0x80);
-        let bytes = omnistat_bytes(random, first, reply);
+        let bytes = reply_bytes(random, first);
         compare.read_at_host(&bytes);
         compare.read_at_thermostat(&bytes);
         let (kind, data) = to_thermostat(random);
@@ -355,24 +471,56 @@ fn omnistat(compare: &mut Compare, random: &mut Random) {
     }
 }
 
-/// Steps on one map, which lives on; sometimes the own address, the room or the size of the map is wrong.
-fn thermostat(compare: &mut Compare, random: &mut Random, map: &mut [u8]) {
-    let own = random.byte_from(1, 127);
-    for _ in 0..4 {
-        let message = to_thermostat(random);
-        let first = address(random, own);
-        let bytes = omnistat_bytes(random, first, message);
-        compare.step(own, map, &bytes, 18 + random.below(20));
+/// Texts to both ends, written.
+fn texts(compare: &mut Compare, random: &mut Random) {
+    for _ in 0..2 {
+        let text = text(random);
+        let any = random.byte();
+        let half = random.pick(&[0, 2, 15, 16, any]);
+        let numbers = [random.byte_from(0, 127), half, text_register(random)];
+        compare.write_text_to_thermostat(numbers, &text, room(random, text.len() + 5));
+        compare.write_text_to_host(numbers, &text, room(random, text.len() + 5));
+        let numbers = [
+            random.byte(),
+            random.byte_from(0, 15),
+            text_register(random),
+        ];
+        compare.write_text_to_thermostat(numbers, &text, room(random, text.len() + 5));
+        compare.write_text_to_host(numbers, &text, room(random, text.len() + 5));
     }
-    let message = to_thermostat(random);
-    let bytes = omnistat_bytes(random, own, message);
-    match random.below(4) {
-        0 => compare.step(own, map, &bytes, random.below(18)),
+}
+
+/// Steps on one state, which lives on; sometimes the own address, the room, a size or the store is wrong.
+fn thermostat(compare: &mut Compare, random: &mut Random, state: &mut State) {
+    let own = random.byte_from(1, 127);
+    for _ in 0..5 {
+        let first = address(random, own);
+        let bytes = request_bytes(random, first);
+        compare.step(own, state, &bytes, 65 + random.below(20));
+    }
+    let bytes = request_bytes(random, own);
+    let mut other = state.clone();
+    match random.below(8) {
+        0 => compare.step(own, &mut other, &bytes, random.below(65)),
         1 => {
-            let size = random.pick(&[0, 1, 255, 257, 512]);
-            compare.step(random.byte(), &mut random.bytes(size), &bytes, 18);
+            let size = random.pick(&[0, 1, 134, 255, 257, 512]);
+            other.map.resize(size, 0);
+            compare.step(random.byte(), &mut other, &bytes, 65);
         }
-        _ => compare.step(random.byte(), map, &bytes, 18),
+        2 => {
+            let size = random.pick(&[0, 1, 61, 256, 549, 609, 611, 671, 1220]);
+            other.texts.resize(size, 0);
+            compare.step(random.byte(), &mut other, &bytes, 65);
+        }
+        3 => compare.step(random.byte(), &mut other, &bytes, 65),
+        4 => {
+            state.texts = store(random);
+            compare.step(own, state, &bytes, 65);
+        }
+        _ => {
+            damage_store(random, &mut other.texts);
+            compare.step(own, &mut other, &bytes, random.pick(&[65, 65, 65, 64]));
+        }
     }
 }
 

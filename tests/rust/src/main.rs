@@ -1,4 +1,4 @@
-//! Compares every call of include/gateway.h with document 01, written once more from the paper.
+//! Compares every call of include/gateway.h with documents 01 and 02, written once more from the papers.
 //!
 //! --seed N     only this seed
 //! --seconds N  random inputs for N seconds, in place of a fixed count
@@ -68,11 +68,11 @@ fn random_part(compare: &mut Compare, random: &mut Random, seconds: Option<u64>)
         Some(seconds) => start.elapsed() >= Duration::from_secs(seconds),
         None => round >= ROUNDS,
     };
-    let mut map = random.bytes(256);
+    let mut state = inputs::state(random);
     let mut round = 0;
     while !over(round) {
         for _ in 0..LISTING {
-            inputs::round(compare, random, &mut map);
+            inputs::round(compare, random, &mut state);
         }
         let size = random.pick(&[0, 10, 100, 400]);
         let size = random.from(size, size + 100);
@@ -85,12 +85,12 @@ fn random_part(compare: &mut Compare, random: &mut Random, seconds: Option<u64>)
 fn table(compare: &Compare) -> usize {
     let mut missing = 0;
     println!(
-        "{:<30} {:>11} {:>9}  refused",
+        "{:<34} {:>11} {:>9}  refused",
         "call", "compared", "accepted"
     );
     for ((name, refusals), counts) in CALLS.iter().zip(&compare.counts) {
         let total: u64 = counts.iter().sum();
-        print!("{name:<30} {total:>11} {:>9} ", counts[0]);
+        print!("{name:<34} {total:>11} {:>9} ", counts[0]);
         for &number in *refusals {
             print!(" {number}:{}", counts[usize::from(number)]);
         }

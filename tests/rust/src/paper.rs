@@ -1,4 +1,5 @@
-//! Document 01 in the plainest form, in its order: what each call has to answer and to leave in lent memory.
+//! Document 01, with the requests of document 02 that have landed, in the plainest form and in document 01's order: what each
+//! call has to answer and to leave in lent memory.
 
 /// What a call gives back, or the number of its refusal.
 pub type Answer<T> = Result<T, u8>;
@@ -208,22 +209,88 @@ pub fn log_entry(bytes: &[u8], field: usize) -> Answer<u16> {
     }
 }
 
-/// An Omnistat2 message: its first byte, its type and its data bytes.
-pub type Omnistat<'a> = (u8, u8, &'a [u8]);
+/// An Omnistat2 message: its first byte (at the host the number of the thermostat), its type and what it carries.
+#[derive(Debug, PartialEq)]
+pub struct Omnistat<'a> {
+    pub first: u8,
+    pub kind: u8,
+    pub body: Body<'a>,
+}
 
-// Omnistat2 messages: the order of checks up to the sum.
-fn omnistat_read(direction: fn(u8) -> bool, bytes: &[u8]) -> Answer<Omnistat<'_>> {
+/// What an Omnistat2 message carries: N data bytes, or a half-byte, a register and its text.
+#[derive(Debug, PartialEq)]
+pub enum Body<'a> {
+    Data(&'a [u8]),
+    Text(u8, u8, &'a [u8]),
+}
+
+// Omnistat2 messages: an end, by the first bytes that it takes, the type that sets or carries registers, and 6, 7, 8 of a
+// type and its data bytes.
+struct End {
+    direction: fn(u8) -> bool,
+    registers: u8,
+    check: fn(u8, &[u8]) -> Answer<()>,
+}
+
+const THERMOSTAT: End = End {
+    direction: to_thermostat,
+    registers: 1,
+    check: from_host,
+};
+
+const HOST: End = End {
+    direction: to_host,
+    registers: 2,
+    check: reply,
+};
+
+// Omnistat2 messages: the order of checks. A set or data message whose third byte is a text register is a text, whatever its
+// half-byte is.
+fn omnistat_read(end: End, bytes: &[u8]) -> Answer<Omnistat<'_>> {
     require(!bytes.is_empty(), SHORT)?;
-    require(direction(bytes[0]), START)?;
+    require((end.direction)(bytes[0]), START)?;
     require(bytes.len() > 1, SHORT)?;
+    let (first, kind) = (bytes[0], bytes[1] % 16);
+    if kind == end.registers && bytes.get(2).is_some_and(|&start| holds_text(start)) {
+        let body = text_read(bytes)?;
+        return Ok(Omnistat { first, kind, body });
+    }
     let n = usize::from(bytes[1] / 16);
     require(bytes.len() >= n + 3, SHORT)?;
     require(bytes.len() <= n + 3, LONG)?;
     require(sum(&bytes[..n + 2]) == bytes[n + 2], CHECKSUM)?;
-    Ok((bytes[0], bytes[1] % 16, &bytes[2..n + 2]))
+    let data = &bytes[2..n + 2];
+    (end.check)(kind, data)?;
+    let body = Body::Data(data);
+    Ok(Omnistat { first, kind, body })
 }
 
-fn sum(bytes: &[u8]) -> u8 {
+// K1: a text is characters up to 03, then the sum; its length half-byte is ignored and kept.
+fn text_read(bytes: &[u8]) -> Answer<Body<'_>> {
+    let after = &bytes[3..];
+    let within = &after[..after.len().min(61)];
+    let end = within.iter().position(|&byte| byte == TEXT_END);
+    let end = end.ok_or(if after.len() < 61 { SHORT } else { FIELD })?;
+    require(after.len() > end + 1, SHORT)?;
+    require(after.len() == end + 2, LONG)?;
+    require(sum(&bytes[..end + 4]) == after[end + 1], CHECKSUM)?;
+    let text = &after[..end];
+    require(characters(text), FIELD)?;
+    Ok(Body::Text(bytes[1] / 16, bytes[2], text))
+}
+
+// K1: the registers that hold text, and what it is made of.
+const TEXT_END: u8 = 0x03;
+
+fn holds_text(register: u8) -> bool {
+    (172..=181).contains(&register)
+}
+
+fn characters(text: &[u8]) -> bool {
+    text.iter().all(|byte| (0x20..=0x7E).contains(byte))
+}
+
+pub fn sum(bytes: &[u8]) -> u8 {
     let sum: u32 = bytes.iter().map(|&byte| u32::from(byte)).sum();
     (sum % 256) as u8
 }
@@ -236,15 +303,12 @@ fn to_host(first: u8) -> bool {
     (0x81..=0xFF).contains(&first)
 }
 
-// Omnistat2 messages: a run of registers ends at or below 255 and meets no text register.
+// Omnistat2 messages: a run of registers ends at or below 255 and meets no text register. One that starts there is asked of a
+// writer alone: to a reader it is a text.
 fn run(start: u8, count: usize) -> Answer<()> {
-    let registers = usize::from(start)..usize::from(start) + count;
-    require(
-        registers
-            .clone()
-            .all(|r| r <= 255 && !(172..=181).contains(&r)),
-        FIELD,
-    )
+    let mut registers = usize::from(start)..usize::from(start) + count;
+    let allowed = |r| u8::try_from(r).is_ok_and(|r| !holds_text(r));
+    require(registers.all(allowed), FIELD)
 }
 
 // Omnistat2 messages: 6, 7, 8 of a message from the host.
@@ -252,6 +316,9 @@ fn from_host(kind: u8, data: &[u8]) -> Answer<()> {
     match kind {
         0 => {
             require(data.len() == 2, TYPE_LENGTH)?;
+            if holds_text(data[0]) {
+                return require(data[1] == 1, FIELD);
+            }
             require((1..=14).contains(&data[1]), FIELD)?;
             run(data[0], usize::from(data[1]))
         }
@@ -280,22 +347,29 @@ fn reply(kind: u8, data: &[u8]) -> Answer<()> {
 
 // Omnistat2 messages: reading at the thermostat.
 pub fn read_at_thermostat(bytes: &[u8]) -> Answer<Omnistat<'_>> {
-    let (first, kind, data) = omnistat_read(to_thermostat, bytes)?;
-    from_host(kind, data)?;
-    Ok((first, kind, data))
+    omnistat_read(THERMOSTAT, bytes)
 }
 
 // Omnistat2 messages: reading at the host. Gives the number of the thermostat in place of the first byte.
 pub fn read_at_host(bytes: &[u8]) -> Answer<Omnistat<'_>> {
-    let (first, kind, data) = omnistat_read(to_host, bytes)?;
-    reply(kind, data)?;
-    Ok((first - 0x80, kind, data))
+    let mut message = omnistat_read(HOST, bytes)?;
+    message.first -= 0x80;
+    Ok(message)
 }
 
 // Omnistat2 messages: the bytes of a message.
 pub fn omnistat(first: u8, kind: u8, data: &[u8]) -> Vec<u8> {
     let mut bytes = vec![first, data.len() as u8 * 16 + kind];
     bytes.extend(data);
+    bytes.push(sum(&bytes));
+    bytes
+}
+
+// K1: the bytes of a text.
+pub fn omnistat_text(first: u8, kind: u8, half: u8, register: u8, text: &[u8]) -> Vec<u8> {
+    let mut bytes = vec![first, half * 16 + kind, register];
+    bytes.extend(text);
+    bytes.push(TEXT_END);
     bytes.push(sum(&bytes));
     bytes
 }
@@ -312,6 +386,47 @@ pub fn write_to_host(number: u8, kind: u8, data: &[u8], room: usize) -> Answer<V
     reply(kind, data)?;
     require((0x01..=0x7F).contains(&number), FIELD)?;
     fit(omnistat(number + 0x80, kind, data), room)
+}
+
+fn writable_text(half: u8, register: u8, text: &[u8]) -> bool {
+    half <= 15 && holds_text(register) && text.len() <= 60 && characters(text)
+}
+
+// K1: writing a text to a thermostat, in a set.
+pub fn write_text_to_thermostat(
+    [address, half, register]: [u8; 3],
+    text: &[u8],
+    room: usize,
+) -> Answer<Vec<u8>> {
+    require(to_thermostat(address), FIELD)?;
+    require(writable_text(half, register, text), FIELD)?;
+    fit(omnistat_text(address, 1, half, register, text), room)
+}
+
+// K1: writing a text to the host, in data.
+pub fn write_text_to_host(
+    [number, half, register]: [u8; 3],
+    text: &[u8],
+    room: usize,
+) -> Answer<Vec<u8>> {
+    require((0x01..=0x7F).contains(&number), FIELD)?;
+    require(writable_text(half, register, text), FIELD)?;
+    fit(omnistat_text(number + 0x80, 2, half, register, text), room)
+}
+
+// K1: the text store, ten texts, each a count byte and then 60 bytes.
+pub const STORE: usize = 10 * HELD;
+pub const HELD: usize = 1 + 60;
+
+fn held(register: u8) -> std::ops::Range<usize> {
+    let at = usize::from(register - 172) * HELD;
+    at..at + HELD
+}
+
+// K1: the text that a part of the store holds, unless it holds none.
+fn stored(part: &[u8]) -> Option<&[u8]> {
+    let text = part[1..].get(..usize::from(part[0]))?;
+    characters(text).then_some(text)
 }
 
 // Registers: the listed ones.
@@ -348,22 +463,44 @@ const GROUP_1: [u8; 6] = [59, 60, 61, 62, 63, 64];
 const GROUP_2: [u8; 6] = [162, 135, 134, 68, 15, 169];
 const GROUP_3: [u8; 10] = [169, 18, 19, 20, 74, 170, 171, 165, 166, 167];
 
-// The model thermostat: a step. Changes the map and gives what is sent.
-pub fn step(own: u8, map: &mut [u8], bytes: &[u8], room: usize) -> Answer<Vec<u8>> {
-    require(room >= 18 && map.len() == 256, ROOM)?;
+/// What a step is lent to change: the registers and the texts.
+#[derive(Clone, Debug, PartialEq)]
+pub struct State {
+    pub map: Vec<u8>,
+    pub texts: Vec<u8>,
+}
+
+// The model thermostat: a step. Changes the state and gives what is sent.
+pub fn step(own: u8, state: &mut State, bytes: &[u8], room: usize) -> Answer<Vec<u8>> {
+    let State { map, texts } = state;
+    require(room >= 65 && map.len() == 256 && texts.len() == STORE, ROOM)?;
     require((1..=127).contains(&own), FIELD)?;
-    let (first, kind, data) = read_at_thermostat(bytes)?;
+    require(texts.chunks(HELD).all(|t| stored(t).is_some()), FIELD)?;
+    let Omnistat { first, kind, body } = read_at_thermostat(bytes)?;
     if first != own && first != 0x00 && first != 0xFA {
         return Ok(Vec::new());
     }
-    let (kind, data) = act(map, kind, data);
-    if first == 0x00 {
-        return Ok(Vec::new());
-    }
-    Ok(omnistat(own + 0x80, kind, &data))
+    let from = own + 0x80;
+    let sent = match (kind, body) {
+        (_, Body::Text(_, register, text)) => {
+            let part = &mut texts[held(register)];
+            part[0] = text.len() as u8;
+            part[1..=text.len()].copy_from_slice(text);
+            omnistat(from, 0, &[])
+        }
+        (0, Body::Data(&[register, _])) if holds_text(register) => {
+            let text = stored(&texts[held(register)]).unwrap_or_default();
+            omnistat_text(from, 2, 0, register, text)
+        }
+        (_, Body::Data(data)) => {
+            let (kind, data) = act(map, kind, data);
+            omnistat(from, kind, &data)
+        }
+    };
+    Ok(if first == 0x00 { Vec::new() } else { sent })
 }
 
-// The model thermostat: what a message does to the map; gives the type and the data bytes of the reply.
+// The model thermostat: what a message without text does to the map; gives the type and the data bytes of the reply.
 fn act(map: &mut [u8], kind: u8, data: &[u8]) -> (u8, Vec<u8>) {
     let contents = |registers: &[u8]| registers.iter().map(|&r| map[usize::from(r)]).collect();
     match kind {

@@ -4,7 +4,7 @@ use crate::calls;
 use crate::compare::{Call, Compare};
 use crate::guard::{Long, Region};
 use crate::inputs::{self, OMNILINK_TYPES, SPECIAL};
-use crate::paper;
+use crate::paper::{self, Body, Omnistat, State};
 use crate::random::Random;
 
 pub fn all(compare: &mut Compare, random: &mut Random) {
@@ -16,8 +16,12 @@ pub fn all(compare: &mut Compare, random: &mut Random) {
     fields(compare);
     commands(compare);
     omnistat(compare, random);
+    texts(compare, random);
+    text_writers(compare, random);
     registers(compare, random);
     addresses(compare, random);
+    text_steps(compare, random);
+    stores(compare, random);
     x10_patterns(compare);
     x10_writers(compare, random);
     x10_extended(compare, random);
@@ -59,14 +63,16 @@ fn examples(compare: &mut Compare) {
         (&[0x01, 0x20, 0x44, 0x02, 0x67], &[0x81, 0x01, 0x82], 7),
     ];
     for (bytes, reply, setting) in steps {
-        let mut map = [7; 256];
-        compare.step(1, &mut map, bytes, 18);
-        compare.fact("register 59", map[59] == setting);
+        let (map, texts) = (vec![7; 256], vec![0; paper::STORE]);
+        let mut state = State { map, texts };
+        compare.step(1, &mut state, bytes, 65);
+        compare.fact("register 59", state.map[59] == setting);
         let reply = Ok(reply.to_vec());
-        compare.fact("a step", paper::step(1, &mut map, bytes, 18) == reply);
+        compare.fact("a step", paper::step(1, &mut state, bytes, 65) == reply);
     }
     let group = paper::read_at_thermostat(&[0x01, 0x02, 0x03]);
-    compare.fact("group 1 poll", group == Ok((1, 2, &[])));
+    let (first, kind, body) = (1, 2, Body::Data(&[]));
+    compare.fact("group 1 poll", group == Ok(Omnistat { first, kind, body }));
     compare.read_at_thermostat(&[0x01, 0x02, 0x03]);
     compare.fact("word 34567", paper::cost(34567) == Ok(4_567_000));
     compare.fact("word 65025", paper::cost(65025) == Ok(5_025));
@@ -87,6 +93,66 @@ fn examples(compare: &mut Compare) {
     compare.fact(
         "an empty capture",
         paper::listing(&[], 6) == Ok(b"end 0\n".to_vec()),
+    );
+    text_examples(compare);
+}
+
+/// Document 004's text, whose printed sum 34 is a slip for D4, and the bounds that K1 names.
+fn text_examples(compare: &mut Compare) {
+    let mut bytes = b"\x01\x21\xAFCUSTOM MESSAGE\x03\xD4".to_vec();
+    let read = |bytes: &[u8]| match paper::read_at_thermostat(bytes) {
+        Ok(message) => match message.body {
+            Body::Text(half, register, text) => Ok((half, register, text.to_vec())),
+            Body::Data(_) => Err(0),
+        },
+        Err(number) => Err(number),
+    };
+    let custom = Ok((2, 175, b"CUSTOM MESSAGE".to_vec()));
+    compare.fact("document 004's text", read(&bytes) == custom);
+    compare.read_at_thermostat(&bytes);
+    bytes[18] = 0x34;
+    compare.fact("as it is printed", read(&bytes) == Err(5));
+    compare.read_at_thermostat(&bytes);
+    for (count, number) in [(60, 1), (61, 8), (62, 8)] {
+        let bytes: Vec<u8> = [0x01, 0x01, 0xAC]
+            .into_iter()
+            .chain(vec![b'A'; count])
+            .collect();
+        compare.fact("a text without 03", read(&bytes) == Err(number));
+        compare.read_at_thermostat(&bytes);
+    }
+    let whole = |count| paper::omnistat_text(0x01, 1, 0, 181, &vec![b'~'; count]);
+    compare.fact(
+        "60 characters",
+        read(&whole(60)) == Ok((0, 181, vec![b'~'; 60])),
+    );
+    compare.fact("61 characters", read(&whole(61)) == Err(8));
+    let host = paper::read_at_host(&[0xAA, 0x02, 0xAC]);
+    compare.fact("a text of three bytes", host == Err(1));
+    compare.read_at_host(&[0xAA, 0x02, 0xAC]);
+    let (map, texts) = (vec![7; 256], vec![0; paper::STORE]);
+    let mut state = State { map, texts };
+    let steps: [(&[u8], &[u8]); 5] = [
+        (b"\x01\x01\xAFHI\x03\x45", &[0x81, 0x00, 0x81]),
+        (&[0x01, 0x20, 0xAF, 0x01, 0xD1], b"\x81\x02\xAFHI\x03\xC6"),
+        (b"\x00\x01\xAF?\x03\xF2", &[]),
+        (&[0xFA, 0x20, 0xAF, 0x01, 0xCA], b"\x81\x02\xAF?\x03\x74"),
+        (&[0x01, 0x20, 0xAC, 0x01, 0xCE], b"\x81\x02\xAC\x03\x32"),
+    ];
+    for (bytes, reply) in steps {
+        let before = state.clone();
+        compare.step(1, &mut state, bytes, 65);
+        let reply = Ok(reply.to_vec());
+        compare.fact(
+            "a text's step",
+            paper::step(1, &mut before.clone(), bytes, 65) == reply,
+        );
+    }
+    let held = &state.texts[183..187];
+    compare.fact("bytes past a count", held == [1, b'?', b'I', 0]);
+    compare.fact(
+        "the other texts",
+        state.texts.iter().filter(|&&b| b != 0).count() == 3,
     );
 }
 
@@ -318,6 +384,16 @@ fn omnistat(compare: &mut Compare, random: &mut Random) {
             both(&paper::omnistat(0xFA, 1, &data));
         }
     }
+    for start in 0..=255 {
+        for count in 0..=16 {
+            let data = vec![start; count];
+            compare.write_to_thermostat(0x01, 1, &data, random.pick(&[count + 3, count + 2]));
+            compare.write_to_host(0x01, 2, &data, random.pick(&[count + 3, count + 2]));
+        }
+        for count in 0..=255 {
+            compare.write_to_thermostat(0xFA, 0, &[start, count], random.pick(&[5, 4]));
+        }
+    }
     for address in 0..=255 {
         for kind in (0..=20).chain([127, 128, 240, 255]) {
             for count in 0..=18 {
@@ -335,38 +411,221 @@ fn omnistat(compare: &mut Compare, random: &mut Random) {
 
 /// Each register with each byte by a single set, and each run of registers polled.
 fn registers(compare: &mut Compare, random: &mut Random) {
-    let mut map = random.bytes(256);
+    let mut state = inputs::state(random);
     for register in 0..=255 {
         for setting in 0..=255 {
             for first in [0x15, 0x00, 0xFA] {
                 let bytes = paper::omnistat(first, 1, &[register, setting]);
-                compare.step(0x15, &mut map, &bytes, 18);
+                compare.step(0x15, &mut state, &bytes, 65);
             }
             let bytes = paper::omnistat(0x15, 0, &[register, setting]);
-            compare.step(0x15, &mut map, &bytes, 18);
-            map[usize::from(register)] = setting;
+            compare.step(0x15, &mut state, &bytes, 65);
+            state.map[usize::from(register)] = setting;
             let others = [register, setting, random.byte(), setting];
             let bytes = paper::omnistat(0x15, 1, &others[..random.from(3, 4)]);
-            compare.step(0x15, &mut map, &bytes, 18);
+            compare.step(0x15, &mut state, &bytes, 65);
         }
     }
 }
 
 /// Each own address with each first byte.
 fn addresses(compare: &mut Compare, random: &mut Random) {
-    let mut map = random.bytes(256);
+    let mut state = inputs::state(random);
     for own in 0..=255 {
         for first in 0..=255 {
             let group = random.byte_from(2, 4);
-            let room = random.pick(&[17, 18, 18, 18, 19]);
-            compare.step(own, &mut map, &paper::omnistat(first, group, &[]), room);
+            let room = random.pick(&[64, 65, 65, 65, 66]);
+            let bytes = paper::omnistat(first, group, &[]);
+            compare.step(own, &mut state, &bytes, room);
             let bytes = paper::omnistat(first, 1, &[59, random.byte_from(51, 91)]);
-            compare.step(own, &mut map, &bytes, 18);
+            compare.step(own, &mut state, &bytes, 65);
+            let register = random.byte_from(172, 181);
+            let bytes = paper::omnistat_text(first, 1, own % 16, register, b"power low");
+            compare.step(own, &mut state, &bytes, room);
+            let bytes = paper::omnistat(first, 0, &[register, 1]);
+            compare.step(own, &mut state, &bytes, 65);
         }
     }
+    let bytes = paper::omnistat(1, 1, &[59, 60]);
     for size in 0..=300 {
-        let bytes = paper::omnistat(1, 1, &[59, 60]);
-        compare.step(1, &mut random.bytes(size), &bytes, 18);
+        let mut state = inputs::state(random);
+        state.map.resize(size, 0);
+        compare.step(1, &mut state, &bytes, 65);
+    }
+    for size in 0..=1300 {
+        for own in [1, 0] {
+            let mut state = inputs::state(random);
+            state.texts.resize(size, 0);
+            compare.step(own, &mut state, &bytes, 65);
+        }
+    }
+    for room in 0..=70 {
+        for first in [0x01, 0x00, 0x02] {
+            let bytes = paper::omnistat(first, 0, &[175, 1]);
+            compare.step(1, &mut state, &bytes, room);
+        }
+    }
+}
+
+/// Each register from two below the text registers to two above them, half-byte and length of text, set at each address and polled.
+fn text_steps(compare: &mut Compare, random: &mut Random) {
+    let mut state = inputs::state(random);
+    for register in 170..=183 {
+        for half in 0..=15 {
+            for count in 0..=62 {
+                let text: Vec<u8> = (0..count).map(|_| random.byte_from(0x20, 0x7E)).collect();
+                for first in [0x09, 0x00, 0xFA, 0x0A] {
+                    let bytes = paper::omnistat_text(first, 1, half, register, &text);
+                    compare.step(0x09, &mut state, &bytes, 65);
+                    let poll = paper::omnistat(random.pick(&[0x09, 0xFA, 0x00]), 0, &[register, 1]);
+                    compare.step(0x09, &mut state, &poll, 65);
+                }
+            }
+            state.texts = inputs::store(random);
+        }
+    }
+}
+
+/// A store with each count and each byte in each of its places.
+fn stores(compare: &mut Compare, random: &mut Random) {
+    let poll = paper::omnistat(0x01, 0, &[59, 1]);
+    for at in 0..paper::STORE {
+        let right = inputs::state(random);
+        for byte in [
+            0x00,
+            0x03,
+            0x1F,
+            0x20,
+            0x3C,
+            0x3D,
+            0x7E,
+            0x7F,
+            0x80,
+            0xFF,
+            random.byte(),
+        ] {
+            let mut state = right.clone();
+            state.texts[at] = byte;
+            compare.step(1, &mut state, &poll, 65);
+        }
+    }
+    for held in 0..10 {
+        for count in 0..=255 {
+            let mut state = inputs::state(random);
+            state.texts[held * paper::HELD + 1..][..60].fill(random.byte_from(0x20, 0x7E));
+            state.texts[held * paper::HELD] = count;
+            let register = 172 + held as u8;
+            compare.step(1, &mut state, &poll, 65);
+            compare.step(1, &mut state, &paper::omnistat(0x01, 0, &[register, 1]), 65);
+            let bytes = paper::omnistat_text(0x01, 1, 0, register, b"\x20\x7E");
+            compare.step(1, &mut state, &bytes, 65);
+            compare.step(0, &mut state, &bytes, random.pick(&[64, 65]));
+            compare.step(1, &mut state, &[], random.pick(&[64, 65]));
+        }
+    }
+}
+
+/// Bytes as a text, read at both ends.
+fn read_text(compare: &mut Compare, bytes: &[u8]) {
+    compare.read_at_thermostat(bytes);
+    compare.read_at_host(bytes);
+}
+
+/// A text whole, cut, longer, and with a wrong sum.
+fn read_around(compare: &mut Compare, bytes: &mut Vec<u8>) {
+    read_text(compare, bytes);
+    read_text(compare, &bytes[..bytes.len() - 1]);
+    read_text(compare, &bytes[..bytes.len() - 2]);
+    bytes.push(0x03);
+    read_text(compare, bytes);
+    bytes.pop();
+    let last = bytes.len() - 1;
+    bytes[last] ^= 0x40;
+    read_text(compare, bytes);
+}
+
+/// Texts at both ends: each first and second byte, each register, half-byte and length, 03 at each place, each byte at each place.
+fn texts(compare: &mut Compare, random: &mut Random) {
+    for first in 0..=255 {
+        for second in 0..=255 {
+            let (kind, half) = (second % 16, second / 16);
+            let text = &b"HIGH PRICE"[..random.below(11)];
+            let mut bytes = paper::omnistat_text(first, kind, half, 175, text);
+            read_around(compare, &mut bytes);
+        }
+    }
+    for (first, kind) in [
+        (0x01, 1),
+        (0x00, 1),
+        (0xFA, 1),
+        (0xFA, 2),
+        (0x81, 2),
+        (0xFF, 2),
+    ] {
+        for register in 170..=183 {
+            for half in 0..=15 {
+                for count in 0..=63 {
+                    let text: Vec<u8> = (0..count).map(|_| random.byte_from(0x20, 0x7E)).collect();
+                    let mut bytes = paper::omnistat_text(first, kind, half, register, &text);
+                    read_around(compare, &mut bytes);
+                }
+            }
+        }
+        for after in 0..=70 {
+            for end in 0..=after {
+                let mut bytes = vec![first, kind, 177];
+                bytes.extend((0..after).map(|_| random.byte_from(0x1F, 0x7F)));
+                if end < after {
+                    bytes[3 + end] = 0x03;
+                }
+                read_text(compare, &bytes);
+                let last = bytes.len() - 1;
+                if last > 3 {
+                    bytes[last] = paper::sum(&bytes[..last]);
+                    read_text(compare, &bytes);
+                }
+            }
+        }
+        for place in 0..60 {
+            for byte in 0..=255 {
+                let mut text = vec![b' '; random.pick(&[place + 1, 60])];
+                text[place] = byte;
+                let mut bytes = paper::omnistat_text(first, kind, 0, 181, &text);
+                read_around(compare, &mut bytes);
+            }
+        }
+    }
+}
+
+/// Each address, half-byte and register to the text writers; each length with each room; each byte at each place.
+fn text_writers(compare: &mut Compare, random: &mut Random) {
+    let mut both = |numbers: [u8; 3], text: &[u8], room: usize| {
+        compare.write_text_to_thermostat(numbers, text, room);
+        compare.write_text_to_host(numbers, text, room);
+    };
+    for number in 0..=255 {
+        for count in [0, 1, 9, 59, 60, 61] {
+            let text: Vec<u8> = (0..count).map(|_| random.byte_from(0x20, 0x7E)).collect();
+            for room in [0, count + 4, count + 5, count + 6] {
+                both([number, 2, 175], &text, room);
+                both([0x7F, number, 172], &text, room);
+                both([0x01, 0, number], &text, room);
+            }
+        }
+        for place in 0..60 {
+            let mut text = vec![b'~'; random.pick(&[place + 1, 60])];
+            text[place] = number;
+            both([0x7A, 15, 181], &text, random.pick(&[65, 64, 70]));
+        }
+    }
+    for count in 0..=70 {
+        for room in 0..=80 {
+            both([0x01, 0, 178], &vec![b' '; count], room);
+        }
+    }
+    for count in [100, 255, 256, 257, 300, 316, 512, 4096, 16000] {
+        both([0x01, 0, 178], &vec![b'x'; count], 65);
+        both([0x01, 0, 178], &vec![b'x'; count], count + 5);
     }
 }
 
@@ -501,9 +760,23 @@ fn long_inputs(compare: &mut Compare) {
         4,
     );
     let map = Region::new(1, 0).lend(&[0; 256]);
-    compare.answer(Call::Step, calls::thermostat_step(1, map, b, out), 4);
+    let texts = Region::new(1, 0).lend(&[0; paper::STORE]);
+    let got = calls::thermostat_step(1, map, texts, b, out);
+    compare.answer(Call::Step, got, 4);
     let b = long.lend(&paper::omnistat(0x81, 0, &[]));
     compare.answer(Call::ReadAtHost, calls::omnistat_read_at_host(b), 4);
+    let b = long.lend(&paper::omnistat_text(0x01, 1, 0, 175, b"low"));
+    let got = calls::omnistat_read_at_thermostat(b);
+    compare.answer(Call::ReadAtThermostat, got, 4);
+    let got = calls::thermostat_step(1, map, texts, b, out);
+    compare.answer(Call::Step, got, 4);
+    let b = long.lend(&paper::omnistat_text(0x81, 2, 0, 175, b"low"));
+    compare.answer(Call::ReadAtHost, calls::omnistat_read_at_host(b), 4);
+    let b = long.lend(&[0x01, 0x01, 175, b'l', b'o', b'w']);
+    let got = calls::omnistat_read_at_thermostat(b);
+    compare.answer(Call::ReadAtThermostat, got, 8);
+    let b = long.lend(&[0x81, 0x02, 175, b'l', b'o', b'w']);
+    compare.answer(Call::ReadAtHost, calls::omnistat_read_at_host(b), 8);
     let b = long.lend(&paper::x10_standard(0, 0, 0));
     compare.answer(Call::X10Read, calls::x10_read(b), 4);
     let b = long.lend(&[]);
@@ -517,9 +790,17 @@ fn long_inputs(compare: &mut Compare) {
     compare.answer(Call::WriteToThermostat, got, 7);
     let got = calls::omnistat_write_to_host(1, 0, b, out);
     compare.answer(Call::WriteToHost, got, 7);
-    let map = long.lend(&[0; 256]);
+    let got = calls::omnistat_write_text_to_thermostat([1, 0, 175], b, out);
+    compare.answer(Call::WriteTextToThermostat, got, 8);
+    let got = calls::omnistat_write_text_to_host([1, 0, 175], b, out);
+    compare.answer(Call::WriteTextToHost, got, 8);
+    let long_map = long.lend(&[0; 256]);
     let poll = Region::new(1, 0).lend(&paper::omnistat(0x01, 2, &[]));
-    compare.answer(Call::Step, calls::thermostat_step(1, map, poll, out), 9);
+    let got = calls::thermostat_step(1, long_map, texts, poll, out);
+    compare.answer(Call::Step, got, 9);
+    let long_texts = long.lend(&[0; paper::STORE]);
+    let got = calls::thermostat_step(1, map, long_texts, poll, out);
+    compare.answer(Call::Step, got, 9);
 }
 
 /// Rooms of 2^32 bytes, which are enough.
@@ -556,9 +837,21 @@ fn long_rooms(compare: &mut Compare) {
     written(compare, Call::X10WriteExtended, got, &right);
     let got = calls::capture_listing(none, out);
     written(compare, Call::Listing, got, b"end 0\n");
+    let text = input.lend(b"low");
+    let got = calls::omnistat_write_text_to_thermostat([9, 2, 175], text, out);
+    let right = paper::omnistat_text(9, 1, 2, 175, b"low");
+    written(compare, Call::WriteTextToThermostat, got, &right);
+    let got = calls::omnistat_write_text_to_host([9, 2, 175], text, out);
+    let right = paper::omnistat_text(0x89, 2, 2, 175, b"low");
+    written(compare, Call::WriteTextToHost, got, &right);
     let map = Region::new(1, 0).lend(&[0; 256]);
+    let texts = Region::new(1, 0).lend(&[32; paper::STORE]);
     let poll = input.lend(&paper::omnistat(0xFA, 2, &[]));
-    let got = calls::thermostat_step(9, map, poll, out);
+    let got = calls::thermostat_step(9, map, texts, poll, out);
     let right = paper::omnistat(0x89, 3, &[0; 6]);
+    written(compare, Call::Step, got, &right);
+    let poll = input.lend(&paper::omnistat(0xFA, 0, &[181, 1]));
+    let got = calls::thermostat_step(9, map, texts, poll, out);
+    let right = paper::omnistat_text(0x89, 2, 0, 181, &[32; 32]);
     written(compare, Call::Step, got, &right);
 }

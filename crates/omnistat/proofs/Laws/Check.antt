@@ -1,6 +1,6 @@
 -- What passes a check of data bytes, and the message that it then is. Assumes nothing.
 use mathlib.Core.Path.{_≡_, refl, sym, ap, _∙_}
-use mathlib.Core.Bool.{Bool, true, false, not, _&&_}
+use mathlib.Core.Bool.{Bool, true, false, not}
 use mathlib.Core.List.{List, [], _∷_}
 use Prim.Native.Nat.{ℕ, zero, suc, _≤_}
 use native.Mathlib.Omega.{arith}
@@ -9,7 +9,7 @@ use lib.ListN.{length, getD, drop}
 use borrow.Author.Tests.{eqb-true}
 use Rattle.answer.specs.Answer.{Outcome, refused, accepted, refuseIf, onAccepted}
 use Rattle.answer.proofs.Laws.Test.{not-accepted, passed-not, on-accepted, still-refused}
-use Rattle.omnistat.specs.Register.{within, runAllowed}
+use Rattle.omnistat.specs.Register.{within, runAllowed, pollAllowed}
 use Rattle.omnistat.specs.declared.frame.End.the-variants.{Thermostat, Host}
 use Rattle.omnistat.specs.Message.{poll, setFrom, dataFrom, ofLength, asPoll, asRun, asMessage}
 use Rattle.omnistat.specs.Parts.{passed}
@@ -75,7 +75,7 @@ poll-accepted (a ∷ []) e = absurd (not-accepted 7 tt (sym e))
 poll-accepted (a ∷ b ∷ c ∷ d) e = absurd (not-accepted 7 tt (sym e))
 poll-accepted (a ∷ b ∷ []) e =
     let p = on-accepted passed (asPoll (a ∷ b ∷ [])) tt (sym e) in
-    let q = passed-not (within 1 14 b && runAllowed a b) 8 (accepted (poll a b)) (p .0) (p .1) in
+    let q = passed-not (pollAllowed a b) 8 (accepted (poll a b)) (p .0) (p .1) in
     (refl, q .1 ∙ sym (p .1))
 
 -- what a typed writer checks is what is checked of its type and data bytes

@@ -10,32 +10,34 @@ use Rattle.omnistat.specs.declared.frame.End.{End}
 use Rattle.omnistat.specs.declared.frame.End.the-variants.{Thermostat, Host}
 use Rattle.omnistat.specs.declared.message.Run.{Run}
 use Rattle.omnistat.specs.declared.request.Request.{Request as RequestAnswer}
-use Rattle.omnistat.specs.declared.request.Request.the-variants.{Refused as RequestRefused, Poll, Set, PollGroup}
+use Rattle.omnistat.specs.declared.request.Request.the-variants.{Refused as RequestRefused, Poll, Set, PollGroup, Text as RequestText}
 use Rattle.omnistat.specs.declared.reply.Reply.{Reply as ReplyAnswer}
-use Rattle.omnistat.specs.declared.reply.Reply.the-variants.{Refused as ReplyRefused, Acknowledge, Negative, Data, Group as GroupAnswer}
+use Rattle.omnistat.specs.declared.reply.Reply.the-variants.{Refused as ReplyRefused, Acknowledge, Negative, Data, Group as GroupAnswer, Text as ReplyText}
 use Rattle.omnistat.specs.Frame.{framed, bytesOf, directed, firstOf}
-use Rattle.omnistat.specs.Message.{Message, setFrom, dataFrom, asRun, asMessage, bodyOf}
-use Rattle.omnistat.specs.Omnistat.{Addressed, addressed, read, writeBytes}
+use Rattle.omnistat.specs.Message.{Counted, setFrom, dataFrom, asRun, asMessage, bodyOf}
+use Rattle.omnistat.specs.Omnistat.{Message, text, Addressed, addressed, addressedCounted, read, writeBytes}
 use Rattle.omnistat.specs.Answer.{requestIn, replyIn}
 use Rattle.omnistat.specs.Parts.{runIn, Says}
 use Rattle.answer.proofs.Laws.Test.{same, passed-not, then-accepted}
 use Rattle.omnistat.proofs.Laws.Message.{run-natural}
-use Rattle.omnistat.proofs.Laws.Omnistat.{write-after-read}
+use Rattle.omnistat.proofs.Laws.Omnistat.{write-after-read-counted}
 use Rattle.omnistat.proofs.Laws.Typed.{again}
 
 -- only what follows the second byte is looked at
 request-after : (s : List ℕ) (r : RequestAnswer) → requestIn s r ≡ requestIn (0 ∷ 0 ∷ drop 2 s) r
 request-after s (RequestRefused e) = refl
 request-after s (Poll first start count) = refl
-request-after s (Set first start count) = ap (λ (x : List ℕ). accepted (addressed first (setFrom start (take count x)))) (sym (drop-drop 1 2 s))
+request-after s (Set first start count) = ap (λ (x : List ℕ). accepted (addressedCounted Thermostat first (setFrom start (take count x)))) (sym (drop-drop 1 2 s))
 request-after s (PollGroup first g) = refl
+request-after s (RequestText first half start count) = ap (λ (x : List ℕ). accepted (addressed first (text (record { half = half; start = start; characters = take count x })))) (sym (drop-drop 1 2 s))
 
 reply-after : (s : List ℕ) (r : ReplyAnswer) → replyIn s r ≡ replyIn (0 ∷ 0 ∷ drop 2 s) r
 reply-after s (ReplyRefused e) = refl
 reply-after s (Acknowledge number) = refl
 reply-after s (Negative number) = refl
-reply-after s (Data number start count) = ap (λ (x : List ℕ). accepted (addressed number (dataFrom start (take count x)))) (sym (drop-drop 1 2 s))
+reply-after s (Data number start count) = ap (λ (x : List ℕ). accepted (addressedCounted Host number (dataFrom start (take count x)))) (sym (drop-drop 1 2 s))
 reply-after s (GroupAnswer number g count) = refl
+reply-after s (ReplyText number half start count) = ap (λ (x : List ℕ). accepted (addressed number (text (record { half = half; start = start; characters = take count x })))) (sym (drop-drop 1 2 s))
 
 -- so what is said of data bytes holds in the message that they are a part of
 module _ {A M : Type 0} (reading : List ℕ → A → Outcome M) (after : (s : List ℕ) (r : A) → reading s r ≡ reading (0 ∷ 0 ∷ drop 2 s) r) where
@@ -53,24 +55,24 @@ module _ (s payload : List ℕ) (n : ℕ) (e : payload ≡ take n (drop 2 s)) wh
   reply-in = in-message replyIn reply-after s payload n e
 
 -- a run that was read is made into a message
-pub run-made : {M : Type 0} (address : ℕ) (make : ℕ → List ℕ → M) (payload : List ℕ) (r : Run)
+pub run-made : (end : End) (address : ℕ) (make : ℕ → List ℕ → Counted end) (payload : List ℕ) (r : Run)
     → Says runIn payload r (asRun (λ start values. (start, values)) payload)
-    → (rest : List ℕ) → onAccepted (λ p. addressed address (make (p .0) (p .1))) (runIn (0 ∷ 0 ∷ (payload ++ rest)) r) ≡ onAccepted (addressed address) (asRun make payload)
-run-made address make payload r says rest =
-    ap (onAccepted (λ p. addressed address (make (p .0) (p .1)))) (says rest)
-    ∙ run-natural (λ p. addressed address (make (p .0) (p .1))) (λ start values. (start, values)) payload
-    ∙ sym (run-natural (addressed address) make payload)
+    → (rest : List ℕ) → onAccepted (λ p. addressedCounted end address (make (p .0) (p .1))) (runIn (0 ∷ 0 ∷ (payload ++ rest)) r) ≡ onAccepted (addressedCounted end address) (asRun make payload)
+run-made end address make payload r says rest =
+    ap (onAccepted (λ p. addressedCounted end address (make (p .0) (p .1)))) (says rest)
+    ∙ run-natural (λ p. addressedCounted end address (make (p .0) (p .1))) (λ start values. (start, values)) payload
+    ∙ sym (run-natural (addressedCounted end address) make payload)
 
--- an accepted message was read from its own type and data bytes, and from these bytes alone
-pub message-read : (end : End) (address : ℕ) (m : Message end) (s : List ℕ) → read end s ≡ accepted (addressed address m)
-    → (asMessage end (bodyOf end m .kind) (bodyOf end m .payload) ≡ accepted m)
-    × (s ≡ bytesOf (framed (firstOf end address) (bodyOf end m .kind) (bodyOf end m .payload)))
+-- a counted message that is accepted was read from its own type and data bytes, and from these bytes alone
+pub message-read : (end : End) (address : ℕ) (c : Counted end) (s : List ℕ) → read end s ≡ accepted (addressedCounted end address c)
+    → (asMessage end (bodyOf end c .kind) (bodyOf end c .payload) ≡ accepted c)
+    × (s ≡ bytesOf (framed (firstOf end address) (bodyOf end c .kind) (bodyOf end c .payload)))
 unfolding writeBytes
-message-read end address m s e =
-    let bytes = bytesOf (framed (firstOf end address) (bodyOf end m .kind) (bodyOf end m .payload)) in
+message-read end address c s e =
+    let bytes = bytesOf (framed (firstOf end address) (bodyOf end c .kind) (bodyOf end c .payload)) in
     let p =
-    then-accepted (asMessage end (bodyOf end m .kind) (bodyOf end m .payload))
-    (λ n. refuseIf (not (directed end (firstOf end address))) 8 (accepted bytes)) s (write-after-read end address m s e) in (
-      p .1 ∙ ap accepted (sym (again end m (p .0) (p .1))),
+    then-accepted (asMessage end (bodyOf end c .kind) (bodyOf end c .payload))
+    (λ n. refuseIf (not (directed end (firstOf end address))) 8 (accepted bytes)) s (write-after-read-counted end address c s e) in (
+      p .1 ∙ ap accepted (sym (again end c (p .0) (p .1))),
       sym (same (passed-not (directed end (firstOf end address)) 8 (accepted bytes) s (p .2) .1)),
     )

@@ -11,7 +11,7 @@ use borrow.Author.Tests.{le-leb, lt-leb, leb-true, eq-eqb, ne-eqb}
 use Rattle.answer.specs.Answer.{Outcome, refused, accepted, refuseIf, onAccepted, andThen}
 use Rattle.omnistat.specs.declared.group.Group.{Group}
 use Rattle.omnistat.specs.declared.frame.End.the-variants.{Thermostat, Host}
-use Rattle.omnistat.specs.Register.{within, runAllowed}
+use Rattle.omnistat.specs.Register.{within, runAllowed, pollAllowed}
 use Rattle.omnistat.specs.Group.{pollType, replyType, replyLength, groupOf}
 use Rattle.omnistat.specs.Message.{poll, setFrom, pollGroup, acknowledge, negative, dataFrom, group, ofLength, asPoll, asRun, asMessage}
 
@@ -21,6 +21,9 @@ module _ (lo hi n : ℕ) where
 
   pub too-high : hi < n → within lo hi n ≡ false
   too-high h = simp (lt-leb n hi h, and-false)
+
+  pub from-low : lo ≤ n → leb n hi ≡ within lo hi n
+  from-low h = simp (le-leb lo n h)
 
   pub inside : lo ≤ n → n ≤ hi → within lo hi n ≡ true
   inside h k = simp (le-leb lo n h, le-leb n hi k)
@@ -50,7 +53,7 @@ poll-length (a ∷ []) h = refl
 poll-length (a ∷ b ∷ []) h = absurd (h refl)
 poll-length (a ∷ b ∷ e ∷ d) h = refl
 
-pub poll-of : (d : List ℕ) (t : Bool) → length d ≡ 2 → (within 1 14 (getD d 1 0) && runAllowed (getD d 0 0) (getD d 1 0)) ≡ t
+pub poll-of : (d : List ℕ) (t : Bool) → length d ≡ 2 → pollAllowed (getD d 0 0) (getD d 1 0) ≡ t
     → asPoll d ≡ refuseIf (not t) 8 (accepted (poll (getD d 0 0) (getD d 1 0)))
 poll-of [] t h e = absurd (omega arith)
 poll-of (a ∷ []) t h e = absurd (omega arith)

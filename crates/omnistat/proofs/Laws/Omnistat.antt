@@ -1,34 +1,47 @@
 -- Reading and writing at both ends undo each other. Assumes nothing.
 use mathlib.Core.Path.{_≡_, refl, sym, ap, _∙_, subst}
-use mathlib.Core.Bool.{Bool, true, false, not}
-use mathlib.Core.List.{List, _∷_}
+use mathlib.Core.Bool.{Bool, true, false, not, _&&_}
+use mathlib.Core.List.{List, [], _∷_, _++_}
+use mathlib.Core.Logic.{⊎-elim}
 use Prim.Native.Nat.{ℕ, _+_, _*_, _≤_, _<_}
 use native.Mathlib.Omega.{arith}
-use lib.Dec.{leb}
+use lib.Dec.{leb, T}
 use lib.ListN.{length}
+use lib.Pow.{areBytes}
 use borrow.Author.Tests.{leb-true, leb-false}
 use Rattle.answer.specs.Answer.{refused, accepted, refuseIf, onAccepted}
 use Rattle.omnistat.specs.declared.frame.End.{End}
 use Rattle.omnistat.specs.declared.frame.End.the-variants.{Thermostat, Host}
+use Rattle.omnistat.specs.Register.{isText}
 use Rattle.omnistat.specs.Frame.{Frame, frame, directed, addressOf, firstOf, bytesOf, summed}
-use Rattle.omnistat.specs.Message.{Message, asMessage, bodyOf}
-use Rattle.omnistat.specs.Omnistat.{Addressed, addressed, read, write, writeBytes}
+use Rattle.omnistat.specs.Message.{Counted, asMessage, bodyOf}
+use Rattle.omnistat.specs.Text.{Text, areCharacters, textType, carriesText, readText, writeText, textAllowed, textBytes}
+use Rattle.omnistat.specs.Omnistat.{Message, counted, text, Addressed, addressed, addressedCounted, addressedText, readCounted, read, write, writeBytes}
 use Rattle.omnistat.specs.Parts.{passed}
-use Rattle.answer.proofs.Laws.Test.{same, passed-not, then-accepted, on-accepted, still-refused}
+use Rattle.answer.proofs.Laws.Test.{same, passed-not, then-accepted, on-accepted, still-refused, chosen}
 use Rattle.omnistat.proofs.Laws.Frame.{taken-apart, read-back}
-use Rattle.omnistat.proofs.Laws.Message.{too-low, too-high, inside, within-both}
+use Rattle.omnistat.proofs.Laws.Message.{too-low, too-high, inside, within-both, and-parts}
 use Rattle.omnistat.proofs.Laws.Typed.{told, kind-fits, again}
+use Rattle.omnistat.proofs.Laws.Text.{no-text, text-carried, text-read-back, text-taken-apart, text-fits}
 
--- reading, by the frame
+-- reading, by the type and the third byte, and by the frame
 module _ (end : End) (s : List ℕ) where
-  pub read-refused : (n : ℕ) → refused n ≡ frame end s → read end s ≡ refused n
+  pub read-counted : carriesText end s ≡ false → read end s ≡ readCounted end s
   unfolding read
-  read-refused n e = rw (← e)
+  read-counted e = simp e
 
-  pub read-whole : (f : Frame) → accepted f ≡ frame end s
-      → read end s ≡ onAccepted (addressed (addressOf end (f .first))) (asMessage end (f .kind) (f .payload))
+  pub read-text : carriesText end s ≡ true → read end s ≡ onAccepted (addressedText end) (readText end s)
   unfolding read
-  read-whole f e = rw (← e)
+  read-text e = simp e
+
+  pub counted-refused : (n : ℕ) → refused n ≡ frame end s → readCounted end s ≡ refused n
+  unfolding readCounted
+  counted-refused n e = rw (← e)
+
+  pub counted-whole : (f : Frame) → accepted f ≡ frame end s
+      → readCounted end s ≡ onAccepted (addressedCounted end (addressOf end (f .first))) (asMessage end (f .kind) (f .payload))
+  unfolding readCounted
+  counted-whole f e = rw (← e)
 
 -- the first byte and the address name one another
 pub from-host : (s : List ℕ) (f : Frame) → accepted f ≡ frame Host s → 0x80 ≤ f .first
@@ -65,7 +78,7 @@ first-of-address Host first e =
 
 -- what is written for a type and data bytes is read as the message that they name
 pub read-after-write-bytes : (end : End) (address kind : ℕ) (payload bytes : List ℕ) → writeBytes end address kind payload ≡ accepted bytes
-    → (m : Message end) × (asMessage end kind payload ≡ accepted m) × (read end bytes ≡ accepted (addressed address m))
+    → (c : Counted end) × (asMessage end kind payload ≡ accepted c) × (read end bytes ≡ accepted (addressedCounted end address c))
 unfolding writeBytes
 read-after-write-bytes end address kind payload bytes e =
     let f : Frame = record { first = firstOf end address; kind = kind; payload = payload } in
@@ -74,44 +87,131 @@ read-after-write-bytes end address kind payload bytes e =
     let k : kind < 16 = subst (λ (n : ℕ). n < 16) (told end kind payload (p .0) (p .1) .0) (kind-fits end (p .0)) in
     let r =
     ap (read end) (sym (same (q .1)))
-    ∙ read-whole end (bytesOf f) f (sym (read-back end f (q .0) k))
-    ∙ ap (λ (a : ℕ). onAccepted (addressed a) (asMessage end kind payload)) (address-of-first end address) in
-    (p .0, p .1, r ∙ ap (onAccepted (addressed address)) (p .1))
+    ∙ read-counted end (bytesOf f) (no-text end (firstOf end address) kind payload (p .0) k (p .1))
+    ∙ counted-whole end (bytesOf f) f (sym (read-back end f (q .0) k))
+    ∙ ap (λ (a : ℕ). onAccepted (addressedCounted end a) (asMessage end kind payload)) (address-of-first end address) in
+    (p .0, p .1, r ∙ ap (onAccepted (addressedCounted end address)) (p .1))
+
+-- a text that is written is read back as the same text
+text-after-write : (end : End) (address : ℕ) (t : Text) (bytes : List ℕ) → writeText end address t ≡ accepted bytes
+    → read end bytes ≡ accepted (addressed address (text t))
+unfolding writeText
+text-after-write end address t bytes e =
+    let first = firstOf end address in
+    let p = passed-not (directed end first && textAllowed t) 8 (accepted (textBytes end first t)) bytes e in
+    let q = and-parts (directed end first) (textAllowed t) (p .0) in
+    ap (read end) (sym (same (p .1)))
+    ∙ read-text end (textBytes end first t) (text-carried end first t (q .1))
+    ∙ ap (onAccepted (addressedText end)) (text-read-back end first t (q .0) (q .1))
+    ∙ ap (λ (a : ℕ). accepted (addressed a (text t))) (address-of-first end address)
 
 -- what is written is read back as the same message
 pub read-after-write : (end : End) (address : ℕ) (m : Message end) (bytes : List ℕ) → write end address m ≡ accepted bytes
     → read end bytes ≡ accepted (addressed address m)
-read-after-write end address m bytes e =
-    let r = read-after-write-bytes end address (bodyOf end m .kind) (bodyOf end m .payload) bytes e in
-    r .2 ∙ ap (λ (x : Message end). accepted (addressed address x)) (sym (again end m (r .0) (r .1)))
+read-after-write end address (counted c) bytes e =
+    let r = read-after-write-bytes end address (bodyOf end c .kind) (bodyOf end c .payload) bytes e in
+    r .2 ∙ ap (λ (x : Counted end). accepted (addressedCounted end address x)) (sym (again end c (r .0) (r .1)))
+read-after-write end address (text t) bytes e = text-after-write end address t bytes e
 
 -- the bytes of a frame are written for its type and data bytes, where these name a message
-written-again : (end : End) (f : Frame) (m : Message end) → asMessage end (f .kind) (f .payload) ≡ accepted m → directed end (f .first) ≡ true
+written-again : (end : End) (f : Frame) (m : Counted end) → asMessage end (f .kind) (f .payload) ≡ accepted m → directed end (f .first) ≡ true
     → writeBytes end (addressOf end (f .first)) (f .kind) (f .payload) ≡ accepted (bytesOf f)
 unfolding writeBytes
 written-again end f m e d =
     simp (e, ap (directed end) (first-of-address end (f .first) d) ∙ d)
     (ap (λ (first : ℕ). accepted (bytesOf (record { first = first; kind = f .kind; payload = f .payload }))) (first-of-address end (f .first) d))
 
--- what is read is written as the same bytes
-pub write-after-read : (end : End) (address : ℕ) (m : Message end) (bytes : List ℕ) → read end bytes ≡ accepted (addressed address m)
+-- a counted message that is read is written as the same bytes
+counted-after-read : (end : End) (address : ℕ) (m : Message end) (bytes : List ℕ) → readCounted end bytes ≡ accepted (addressed address m)
     → write end address m ≡ accepted bytes
-unfolding read
-write-after-read end address m bytes e =
+unfolding readCounted
+counted-after-read end address m bytes e =
     let p =
-    then-accepted (frame end bytes) (λ f. onAccepted (addressed (addressOf end (f .first))) (asMessage end (f .kind) (f .payload)))
+    then-accepted (frame end bytes) (λ f. onAccepted (addressedCounted end (addressOf end (f .first))) (asMessage end (f .kind) (f .payload)))
     (addressed address m) e in
     let f : Frame = p .0 in
-    let q = on-accepted (addressed (addressOf end (f .first))) (asMessage end (f .kind) (f .payload)) (addressed address m) (p .2) in
+    let q = on-accepted (addressedCounted end (addressOf end (f .first))) (asMessage end (f .kind) (f .payload)) (addressed address m) (p .2) in
     let t = taken-apart end bytes f (p .1) in
     let n = told end (f .kind) (f .payload) (q .0) (q .1) in
     let a : addressOf end (f .first) ≡ address = ap (λ (x : Addressed (Message end)). x .address) (q .2) in
-    let g : q .0 ≡ m = ap (λ (x : Addressed (Message end)). x .message) (q .2) in
-    ap (λ (i : ℕ). writeBytes end i (bodyOf end m .kind) (bodyOf end m .payload)) (sym a)
-    ∙ ap (λ (k : ℕ). writeBytes end (addressOf end (f .first)) k (bodyOf end m .payload)) (ap (λ (x : Message end). bodyOf end x .kind) (sym g) ∙ n .0)
-    ∙ ap (λ (d : List ℕ). writeBytes end (addressOf end (f .first)) (f .kind) d) (ap (λ (x : Message end). bodyOf end x .payload) (sym g) ∙ n .1 .0)
+    let g : counted (q .0) ≡ m = ap (λ (x : Addressed (Message end)). x .message) (q .2) in
+    ap (λ (x : Message end). write end address x) (sym g)
+    ∙ ap (λ (i : ℕ). writeBytes end i (bodyOf end (q .0) .kind) (bodyOf end (q .0) .payload)) (sym a)
+    ∙ ap (λ (k : ℕ). writeBytes end (addressOf end (f .first)) k (bodyOf end (q .0) .payload)) (n .0)
+    ∙ ap (λ (d : List ℕ). writeBytes end (addressOf end (f .first)) (f .kind) d) (n .1 .0)
     ∙ written-again end f (q .0) (q .1) (t .0)
     ∙ ap accepted (t .2)
+
+-- a text that is read is written as the same bytes, with the same half-byte
+text-after-read : (end : End) (address : ℕ) (m : Message end) (bytes : List ℕ) → T (areBytes bytes) → carriesText end bytes ≡ true
+    → onAccepted (addressedText end) (readText end bytes) ≡ accepted (addressed address m) → write end address m ≡ accepted bytes
+unfolding writeText
+text-after-read end address m bytes b k e =
+    let q = on-accepted (addressedText end) (readText end bytes) (addressed address m) e in
+    let t = q .0 .1 in
+    let p = text-taken-apart end bytes (q .0) b k (q .1) in
+    let a : q .0 .0 ≡ address = ap (λ (x : Addressed (Message end)). x .address) (q .2) in
+    let g : text t ≡ m = ap (λ (x : Addressed (Message end)). x .message) (q .2) in
+    let f : firstOf end address ≡ p .0 = ap (firstOf end) (sym a ∙ p .2) ∙ first-of-address end (p .0) (p .1) in
+    let d : directed end (firstOf end address) ≡ true = ap (directed end) f ∙ p .1 in
+    ap (λ (x : Message end). write end address x) (sym g)
+    ∙ simp (d, p .3)
+    (ap (λ (first : ℕ). accepted (textBytes end first t)) f ∙ ap accepted (p .4))
+
+-- what is read from bytes is written as the same bytes
+pub write-after-read : (end : End) (address : ℕ) (m : Message end) (bytes : List ℕ) → T (areBytes bytes)
+    → read end bytes ≡ accepted (addressed address m) → write end address m ≡ accepted bytes
+unfolding read
+write-after-read end address m bytes b e =
+    ⊎-elim (λ p. text-after-read end address m bytes b (p .0) (p .1)) (λ p. counted-after-read end address m bytes (p .1))
+    (chosen (carriesText end bytes) (onAccepted (addressedText end) (readText end bytes)) (readCounted end bytes) (accepted (addressed address m)) e)
+
+-- a message is a text or counted
+counted-is-no-text : (end : End) (a b : ℕ) (c : Counted end) (t : Text) → addressedCounted end a c ≡ addressed b (text t) → ⊥
+counted-is-no-text end a b c t h =
+    let z : _≡_ {A = ℕ} 0 1 = ap (λ (x : Addressed (Message end)). which (x .message)) h in
+    absurd (omega arith)
+  where
+    which : Message end → ℕ
+    which (counted x) = 0
+    which (text x) = 1
+
+-- a counted message was read as one, so that it is written as the same bytes whatever they are
+pub write-after-read-counted : (end : End) (address : ℕ) (c : Counted end) (bytes : List ℕ) → read end bytes ≡ accepted (addressedCounted end address c)
+    → write end address (counted c) ≡ accepted bytes
+unfolding read
+write-after-read-counted end address c bytes e =
+    ⊎-elim
+    (λ p.
+    let q = on-accepted (addressedText end) (readText end bytes) (addressedCounted end address c) (p .1) in
+    absurd (counted-is-no-text end address (q .0 .0) c (q .0 .1) (sym (q .2))))
+    (λ p. counted-after-read end address (counted c) bytes (p .1))
+    (chosen (carriesText end bytes) (onAccepted (addressedText end) (readText end bytes)) (readCounted end bytes) (accepted (addressedCounted end address c)) e)
+
+-- a text was read as one: its register holds text, and its characters may be held
+pub text-heard : (end : End) (address : ℕ) (t : Text) (bytes : List ℕ) → read end bytes ≡ accepted (addressed address (text t))
+    → (isText (t .start) ≡ true) × (length (t .characters) ≤ 60) × (areCharacters (t .characters) ≡ true)
+unfolding read readCounted
+text-heard end address t bytes e =
+    ⊎-elim
+    (λ p.
+    let q = on-accepted (addressedText end) (readText end bytes) (addressed address (text t)) (p .1) in
+    subst Fits (ap (λ (x : Addressed (Message end)). textOf (x .message)) (q .2)) (text-fits end bytes (q .0) (p .0) (q .1)))
+    (λ p.
+    let f =
+    then-accepted (frame end bytes) (λ f. onAccepted (addressedCounted end (addressOf end (f .first))) (asMessage end (f .kind) (f .payload)))
+    (addressed address (text t)) (p .1) in
+    let q =
+    on-accepted (addressedCounted end (addressOf end (f .0 .first))) (asMessage end (f .0 .kind) (f .0 .payload)) (addressed address (text t)) (f .2) in
+    absurd (counted-is-no-text end (addressOf end (f .0 .first)) address (q .0) t (q .2)))
+    (chosen (carriesText end bytes) (onAccepted (addressedText end) (readText end bytes)) (readCounted end bytes) (accepted (addressed address (text t))) e)
+  where
+    textOf : Message end → Text
+    textOf (counted x) = t
+    textOf (text x) = x
+
+    Fits : Text → Type 0
+    Fits x = (isText (x .start) ≡ true) × (length (x .characters) ≤ 60) × (areCharacters (x .characters) ≡ true)
 
 -- writing, by what the checks of the type and the data bytes say
 module _ (end : End) (address kind : ℕ) (payload : List ℕ) where
@@ -139,3 +239,22 @@ module _ (end : End) (address kind : ℕ) (payload : List ℕ) where
     write-summed a second s =
         let p = on-accepted passed (asMessage end kind payload) tt (sym e) in
         simp (p .1, a) (ap (λ (n : ℕ). accepted (summed (firstOf end address ∷ n ∷ payload))) (sym s))
+
+-- writing a text, by what its checks say
+module _ (end : End) (address : ℕ) (t : Text) where
+  pub text-misaddressed : directed end (firstOf end address) ≡ false → writeText end address t ≡ refused 8
+  unfolding writeText
+  text-misaddressed d = simp d
+
+  module _ (d : directed end (firstOf end address) ≡ true) where
+    pub text-not-allowed : textAllowed t ≡ false → writeText end address t ≡ refused 8
+    unfolding writeText
+    text-not-allowed a = ap (λ (b : Bool). refuseIf (not (b && textAllowed t)) 8 (accepted (textBytes end (firstOf end address) t))) d ∙ ap (λ (b : Bool). refuseIf (not b) 8 (accepted (textBytes end (firstOf end address) t))) a
+
+    pub text-summed : textAllowed t ≡ true → (second : ℕ) → second ≡ t .half * 16 + textType end
+        → writeText end address t ≡ accepted (summed (firstOf end address ∷ second ∷ t .start ∷ (t .characters ++ (3 ∷ []))))
+    unfolding writeText
+    text-summed a second s =
+        ap (λ (b : Bool). refuseIf (not (b && textAllowed t)) 8 (accepted (textBytes end (firstOf end address) t))) d
+        ∙ ap (λ (b : Bool). refuseIf (not b) 8 (accepted (textBytes end (firstOf end address) t))) a
+        ∙ ap (λ (n : ℕ). accepted (summed (firstOf end address ∷ n ∷ t .start ∷ (t .characters ++ (3 ∷ []))))) (sym s)

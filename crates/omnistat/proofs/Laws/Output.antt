@@ -27,6 +27,17 @@ run-placed a b s p (o ∷ q ∷ r ∷ old) h =
     ap (λ (n : ℕ). a ∷ b ∷ s ∷ (take (length p) p ++ drop n (a ∷ b ∷ s ∷ old))) e
     ∙ ap (λ (x : List ℕ). a ∷ b ∷ s ∷ (x ++ drop (length p) old)) (take-length p)
 
+-- 03 behind characters
+pub text-placed : (a b s : ℕ) (p old after : List ℕ) → 4 + length p ≤ length old → after ≡ paste (set (set (set old 0 a) 1 b) 2 s) 3 p (length p)
+    → set after (length p + 3) 3 ≡ begun (a ∷ b ∷ s ∷ (p ++ (3 ∷ []))) old
+text-placed a b s p old after h e =
+    let l : 3 ≤ length old = omega arith in
+    let n : length p + 3 ≡ length (a ∷ b ∷ s ∷ p) = omega arith in
+    let m : length (a ∷ b ∷ s ∷ p) < length old = omega arith in
+    ap (λ (x : List ℕ). set x (length p + 3) 3) (e ∙ run-placed a b s p old l)
+    ∙ ap (λ (k : ℕ). set (begun (a ∷ b ∷ s ∷ p) old) k 3) n
+    ∙ put-next (a ∷ b ∷ s ∷ p) old 3 m
+
 pub bytes-length : (first kind : ℕ) (p : List ℕ) → length (bytesOf (framed first kind p)) ≡ length p + 3
 unfolding bytesOf
 bytes-length first kind p = simp length-append (omega arith)
@@ -39,6 +50,18 @@ sum-two a b p = omega arith
 pub sum-three : (a b s : ℕ) (p : List ℕ) → (((a + b) % 256 + s) % 256 + sumOf p) % 256 ≡ sumOf (a ∷ b ∷ s ∷ p)
 unfolding total
 sum-three a b s p = omega arith
+
+total-behind : (p : List ℕ) (n : ℕ) → total (p ++ (n ∷ [])) ≡ total p + n
+unfolding total
+total-behind [] n = omega arith
+total-behind (b ∷ p) n = omega (arith, total-behind p n)
+
+sum-behind : (p : List ℕ) (n : ℕ) → (sumOf p + n) % 256 ≡ sumOf (p ++ (n ∷ []))
+sum-behind p n = omega (arith, total-behind p n)
+
+pub sum-text : (a b s : ℕ) (p : List ℕ) → (((a + b) % 256 + s) % 256 + (sumOf p + 3) % 256) % 256 ≡ sumOf (a ∷ b ∷ s ∷ (p ++ (3 ∷ [])))
+sum-text a b s p =
+    ap (λ (n : ℕ). (((a + b) % 256 + s) % 256 + n) % 256) (sum-behind p 3) ∙ sum-three a b s (p ++ (3 ∷ []))
 
 -- a writer that refuses, and one that goes by another's outcome
 module _ (old : List ℕ) where

@@ -1,6 +1,6 @@
 -- A message's type and data bytes name exactly that message. Assumes nothing.
 use mathlib.Core.Path.{_≡_, refl, sym, ap, _∙_, subst}
-use mathlib.Core.Bool.{not, cond, _&&_}
+use mathlib.Core.Bool.{not, cond}
 use mathlib.Core.List.{List, [], _∷_}
 use mathlib.Core.Logic.{⊎-elim}
 use Prim.Native.Nat.{ℕ, _<_, _≤_}
@@ -13,18 +13,18 @@ use Rattle.omnistat.specs.declared.group.Group.{Group}
 use Rattle.omnistat.specs.declared.group.Group.the-variants.{First, Second, Third}
 use Rattle.omnistat.specs.declared.frame.End.{End}
 use Rattle.omnistat.specs.declared.frame.End.the-variants.{Thermostat, Host}
-use Rattle.omnistat.specs.Register.{within, runAllowed}
+use Rattle.omnistat.specs.Register.{within, runAllowed, pollAllowed}
 use Rattle.omnistat.specs.Group.{pollType, replyType, replyLength, groupOf}
-use Rattle.omnistat.specs.Message.{Message, poll, setFrom, pollGroup, acknowledge, negative, dataFrom, group, ofLength, asPoll, asRun, asMessage, bodyOf}
+use Rattle.omnistat.specs.Message.{Counted, poll, setFrom, pollGroup, acknowledge, negative, dataFrom, group, ofLength, asPoll, asRun, asMessage, bodyOf}
 use Rattle.answer.proofs.Laws.Test.{not-accepted, same, passed-not, then-accepted, chosen}
 use Rattle.omnistat.proofs.Laws.Message.{within-both}
 
 -- a message that is read from a type and data bytes carries these, and they fit the halves of the second byte
-abbrev pub Told : (end : End) → ℕ → List ℕ → Message end → Type 0
+abbrev pub Told : (end : End) → ℕ → List ℕ → Counted end → Type 0
 Told end t d m = (bodyOf end m .kind ≡ t) × ((bodyOf end m .payload ≡ d) × (length d ≤ 15))
 
 -- a fixed length, a run, a poll
-told-length : (end : End) (t : ℕ) (d : List ℕ) (m b : Message end) (n : ℕ) → n ≤ 15 → bodyOf end b .kind ≡ t
+told-length : (end : End) (t : ℕ) (d : List ℕ) (m b : Counted end) (n : ℕ) → n ≤ 15 → bodyOf end b .kind ≡ t
     → (length d ≡ n → bodyOf end b .payload ≡ d) → ofLength n d b ≡ accepted m → Told end t d m
 told-length end t d m b n l k p a =
     let q = passed-not (eqb (length d) n) 7 (accepted b) m a in
@@ -32,7 +32,7 @@ told-length end t d m b n l k p a =
     let f : length d ≤ 15 = omega arith in
     subst (Told end t d) (same (q .1)) (k, (p e, f))
 
-told-run : (end : End) (t : ℕ) (d : List ℕ) (m : Message end) (make : ℕ → List ℕ → Message end)
+told-run : (end : End) (t : ℕ) (d : List ℕ) (m : Counted end) (make : ℕ → List ℕ → Counted end)
     → ((s : ℕ) (v : List ℕ) → bodyOf end (make s v) .kind ≡ t) → ((s : ℕ) (v : List ℕ) → bodyOf end (make s v) .payload ≡ s ∷ v)
     → asRun make d ≡ accepted m → Told end t d m
 told-run end t [] m make k p a = absurd (not-accepted 7 m a)
@@ -42,12 +42,12 @@ told-run end t (x ∷ d) m make k p a =
     let f : length (x ∷ d) ≤ 15 = omega (arith, within-both 1 14 (length d) (q .0) .1) in
     subst (Told end t (x ∷ d)) (same (r .1)) (k x d, (p x d, f))
 
-told-poll : (d : List ℕ) (m : Message Thermostat) → asPoll d ≡ accepted m → Told Thermostat 0 d m
+told-poll : (d : List ℕ) (m : Counted Thermostat) → asPoll d ≡ accepted m → Told Thermostat 0 d m
 told-poll [] m a = absurd (not-accepted 7 m a)
 told-poll (x ∷ []) m a = absurd (not-accepted 7 m a)
 told-poll (x ∷ y ∷ z ∷ d) m a = absurd (not-accepted 7 m a)
 told-poll (x ∷ y ∷ []) m a =
-    let q = passed-not (within 1 14 y && runAllowed x y) 8 (accepted (poll x y)) m a in
+    let q = passed-not (pollAllowed x y) 8 (accepted (poll x y)) m a in
     let f : length (x ∷ y ∷ []) ≤ 15 = omega arith in
     subst (Told Thermostat 0 (x ∷ y ∷ [])) (same (q .1)) (refl, (refl, f))
 
@@ -77,7 +77,7 @@ reply-length-fits Second = omega arith
 reply-length-fits Third = omega arith
 
 -- what is accepted for a type and data bytes carries that type and those data bytes
-pub told : (end : End) (t : ℕ) (d : List ℕ) (m : Message end) → asMessage end t d ≡ accepted m → Told end t d m
+pub told : (end : End) (t : ℕ) (d : List ℕ) (m : Counted end) → asMessage end t d ≡ accepted m → Told end t d m
 unfolding asMessage
 told Thermostat t d m =
     one-of t 0 m (asPoll d) _ (λ k a. subst (λ (n : ℕ). Told Thermostat n d m) k (told-poll d m a))
@@ -106,7 +106,7 @@ reply-type-fits First = omega arith
 reply-type-fits Second = omega arith
 reply-type-fits Third = omega arith
 
-pub kind-fits : (end : End) (m : Message end) → bodyOf end m .kind < 16
+pub kind-fits : (end : End) (m : Counted end) → bodyOf end m .kind < 16
 kind-fits Thermostat (poll start count) = omega arith
 kind-fits Thermostat (setFrom start values) = omega arith
 kind-fits Thermostat (pollGroup g) = poll-type-fits g
@@ -121,9 +121,9 @@ again-run make start values n e =
     let p = passed-not (within 1 14 (length values)) 7 (refuseIf (not (runAllowed start (length values))) 8 (accepted (make start values))) n e in
     same (passed-not (runAllowed start (length values)) 8 (accepted (make start values)) n (p .1) .1)
 
-pub again : (end : End) (m n : Message end) → asMessage end (bodyOf end m .kind) (bodyOf end m .payload) ≡ accepted n → m ≡ n
+pub again : (end : End) (m n : Counted end) → asMessage end (bodyOf end m .kind) (bodyOf end m .payload) ≡ accepted n → m ≡ n
 unfolding asMessage
-again Thermostat (poll start count) n e = same (passed-not (within 1 14 count && runAllowed start count) 8 (accepted (poll start count)) n e .1)
+again Thermostat (poll start count) n e = same (passed-not (pollAllowed start count) 8 (accepted (poll start count)) n e .1)
 again Thermostat (setFrom start values) n e = again-run setFrom start values n e
 again Thermostat (pollGroup First) n e = same e
 again Thermostat (pollGroup Second) n e = same e

@@ -1,9 +1,9 @@
 use Prim.Native.Nat.{ℕ}
-use borrow.Author.Needs.{needs}
 use mathlib.Core.List.{[], _∷_}
 use mathlib.Core.Path.{ap, _∙_}
 use Rattle.answer.specs.Answer.{Outcome, onAccepted}
 use Rattle.answer.specs.Packed.{packed, word}
+use borrow.Author.Needs.{needs}
 use Rattle.host.proofs.model.thermostat_step.Statement.{statement}
 use Rattle.host.proofs.model.thermostat_step.Tie as tie
 
@@ -19,13 +19,17 @@ same-length c = search needs
 same-length-2 : tie.Need-same-length-2
 same-length-2 c = search needs
 
+same-length-3 : tie.Need-same-length-3
+same-length-3 c = search needs
+
 returns : tie.Need-returns
 returns c =
-    let call = c .before .before .before .before .before .step in (
+    let call = c .before .before .before .before .before .before .before .step in (
       c .pack-written .ensures .0 ∙ ap (λ (o : Outcome ℕ). packed (onAccepted (λ count. word count ∷ []) o)) (call .ensures .0),
       call .ensures .1,
     )
 
 pub thermostat-step-spec : {M : Type 1} → statement M
 thermostat-step-spec =
-    tie.close (tie.spec step-requires pack-written-requires same-length same-length-2 returns)
+    tie.close
+    (tie.spec step-requires pack-written-requires same-length same-length-2 same-length-3 returns)

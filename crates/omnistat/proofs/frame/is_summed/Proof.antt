@@ -17,7 +17,9 @@ slice-aggregate-sum : tie.Need-slice-aggregate-sum
 slice-aggregate-sum c = let a = c .before .before .before .args in sym (length-take-le (a .last) (now (a .bytes)) (omega arith))
 
 sum-requires : tie.Need-sum-requires
-sum-requires c κs = search needs
+sum-requires c κs =
+    let start = c .before .before .before in
+    omega (arith, start .pre .1, length-take-le (start .args .last) (now (start .args .bytes)) (omega (arith, start .pre .0)))
 
 returns : tie.Need-returns
 returns c =

@@ -1,19 +1,19 @@
 use mathlib.Core.Path.{_≡_, refl, sym, ap, _∙_}
 use mathlib.Core.List.{List}
-use Prim.Native.Nat.{ℕ, _+_, _-_, _%_, _≤_}
+use Prim.Native.Nat.{ℕ, _+_, _-_, _*_, _%_, _≤_}
 use native.Mathlib.Numerals.{add-one}
 use native.Mathlib.Omega.{arith}
 use denote.Ref.{now}
 use lib.ListN.{length, getD, set, take, length-set}
 use lib.Seq.{paste, paste-zero, paste-suc, take-all}
-use Rattle.omnistat.specs.Frame.{sumOf}
-use Rattle.omnistat.proofs.Laws.Sum.{sum-none, sum-next}
+use Rattle.omnistat.specs.Frame.{total as totalOf, sumOf}
+use Rattle.omnistat.proofs.Laws.Sum.{total-none, total-next}
 use Rattle.omnistat.proofs.frame.put.Statement.{statement}
 use Rattle.omnistat.proofs.frame.put.Tie as tie
 
 abbrev Inv-loop : tie.InvT-loop
 Inv-loop out₀ at from total₀ i₀ out total i =
-    (i ≤ length from) × (at + length from ≤ length out₀) × (length out ≡ length out₀) × (out ≡ paste out₀ at from i) × (total ≡ sumOf (take i from))
+    (i ≤ length from) × (at + length from ≤ length out₀) × (length out ≡ length out₀) × (out ≡ paste out₀ at from i) × (length from ≤ 255) × (total ≡ totalOf (take i from)) × (total ≤ 255 * i)
 
 abbrev μ-loop : tie.MeasureT-loop
 μ-loop out₀ at from total₀ i₀ out total i = length from - i
@@ -21,7 +21,7 @@ abbrev μ-loop : tie.MeasureT-loop
 loop-holds : tie.Need-loop-holds Inv-loop μ-loop
 loop-holds c =
     let from = now (c .args .from) in
-    (omega arith, c .pre, refl, paste-zero (now (c .args .out)) (c .args .at) from, sym (sum-none from))
+    (omega arith, c .pre .0, refl, paste-zero (now (c .args .out)) (c .args .at) from, c .pre .1, sym (total-none from), omega arith)
 
 shared-slice-read-out : tie.Need-shared-slice-read-out Inv-loop μ-loop
 shared-slice-read-out c = omega arith
@@ -39,7 +39,7 @@ cast-total : tie.Need-cast-total Inv-loop μ-loop
 cast-total c = omega (arith, c .shared-slice-known2 .given (c .before .before .before .loop .i))
 
 add-total : tie.Need-add-total Inv-loop μ-loop
-add-total c = omega (arith, c .shared-slice-known2 .given (c .before .before .before .loop .i))
+add-total c = omega (arith, c .shared-slice-known2 .given (c .before .before .before .loop .i), c .before .before .before .loop .inv .6)
 
 add-i : tie.Need-add-i Inv-loop μ-loop
 add-i c = omega arith
@@ -58,7 +58,9 @@ loop-again c =
       ap (λ (d : List ℕ). set d (a .at + l .i) (getD from (l .i) 0)) (l .inv .3)
           ∙ paste-suc (now (a .out)) (a .at) from (l .i) 0 (omega arith) (omega arith)
           ∙ ap (paste (now (a .out)) (a .at) from) (sym (add-one (l .i))),
-      ap (λ (n : ℕ). (n + getD from (l .i) 0) % 256) (l .inv .4) ∙ sym (sum-next from (l .i) (c .before .before .loop-test .taken)),
+      l .inv .4,
+      ap (λ (n : ℕ). n + getD from (l .i) 0) (l .inv .5) ∙ sym (total-next from (l .i) (c .before .before .loop-test .taken)),
+      omega (arith, c .shared-slice-known2 .given (l .i), l .inv .6),
     )
 
 cast-result : tie.Need-cast-result Inv-loop μ-loop
@@ -71,7 +73,7 @@ returns : tie.Need-returns Inv-loop μ-loop
 returns c =
     let from = now (c .before .before .args .from) in
     let n : c .before .loop .i ≡ length from = omega arith in (
-      c .before .loop .inv .4 ∙ ap sumOf (take-all (c .before .loop .i) from (c .loop-test .left)),
+      ap (λ (n : ℕ). n % 256) (c .before .loop .inv .5) ∙ ap sumOf (take-all (c .before .loop .i) from (c .loop-test .left)),
       c .before .loop .inv .3 ∙ ap (paste (now (c .before .before .args .out)) (c .before .before .args .at) from) n,
     )
 

@@ -61,7 +61,7 @@ sub-is-summed : tie.Need-sub-is-summed
 sub-is-summed c = search needs
 
 is-summed-requires : tie.Need-is-summed-requires
-is-summed-requires c κs = search needs
+is-summed-requires c κs = (omega arith, omega (arith, c .before .before .before .shared-slice-known3 .given 1))
 
 returns-6 : tie.Need-returns-6
 returns-6 c =

@@ -1,9 +1,10 @@
 use mathlib.Core.Path.{sym, ap, _∙_}
-use mathlib.Core.List.{List, [], _∷_}
+use mathlib.Core.List.{List}
 use Prim.Native.Nat.{ℕ}
 use denote.Ref.{now}
 use Rattle.answer.specs.Answer.{numberOf}
-use Rattle.answer.specs.Packed.{Field, packed, byte}
+use Rattle.answer.specs.Packed.{Field, packed}
+use Rattle.omnistat.specs.Answer.{countedFields}
 use Rattle.omnistat.specs.Parts.{checkOf}
 use Rattle.omnistat.proofs.Laws.Check.{length-refused, length-accepted}
 use borrow.Author.Needs.{needs}
@@ -11,7 +12,7 @@ use Rattle.omnistat.proofs.message.pack_fixed.Statement.{statement}
 use Rattle.omnistat.proofs.message.pack_fixed.Tie as tie
 
 abbrev told : ℕ → ℕ → ℕ → List Field
-told kind address count = byte kind ∷ byte address ∷ byte 0 ∷ byte count ∷ []
+told kind address count = countedFields kind address 0 count
 
 check-length-requires : tie.Need-check-length-requires
 check-length-requires c κs = search needs

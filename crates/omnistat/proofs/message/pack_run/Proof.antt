@@ -1,11 +1,12 @@
 use mathlib.Core.Path.{_≡_, sym, ap, _∙_}
-use mathlib.Core.List.{List, [], _∷_}
+use mathlib.Core.List.{List}
 use Prim.Native.Nat.{ℕ, _-_, _≤_}
 use native.Mathlib.Omega.{arith}
 use denote.Ref.{now}
 use lib.ListN.{length, getD, drop, length-drop}
 use Rattle.answer.specs.Answer.{accepted, numberOf}
-use Rattle.answer.specs.Packed.{Field, packed, byte}
+use Rattle.answer.specs.Packed.{Field, packed}
+use Rattle.omnistat.specs.Answer.{countedFields}
 use Rattle.omnistat.specs.Parts.{checkOf}
 use Rattle.omnistat.proofs.Laws.Check.{runChecked, run-sized, run-refused, run-accepted}
 use borrow.Author.Needs.{needs}
@@ -21,7 +22,7 @@ sized : (c : tie.After-enum-told)
 sized c = run-sized (now (c .before .before .before .before .args .payload)) (went-on c)
 
 abbrev told : ℕ → ℕ → ℕ → List ℕ → List Field
-told kind address start values = byte kind ∷ byte address ∷ byte start ∷ byte (length values) ∷ []
+told kind address start values = countedFields kind address start (length values)
 
 check-run-in-requires : tie.Need-check-run-in-requires
 check-run-in-requires c κs = search needs
@@ -61,7 +62,7 @@ returns-2 c =
     let d = now (a .payload) in
     let n : length d - 1 ≡ length (drop 1 d) = sym (length-drop 1 d) in
     c .pack-4-bytes .ensures
-    ∙ ap (λ (k : ℕ). packed (accepted (byte (a .kind) ∷ byte (a .address) ∷ byte (getD d 0 0) ∷ byte k ∷ []))) n
+    ∙ ap (λ (k : ℕ). packed (accepted (countedFields (a .kind) (a .address) (getD d 0 0) k))) n
     ∙ ap packed (run-accepted (told (a .kind) (a .address)) d (went-on (c .before .before)))
 
 pub pack-run-spec : {M : Type 1} → statement M

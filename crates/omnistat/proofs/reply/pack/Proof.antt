@@ -1,15 +1,15 @@
 use mathlib.Core.Path.{sym, ap, _∙_}
-use mathlib.Core.List.{List, [], _∷_}
+use mathlib.Core.List.{List}
 use Prim.Native.Nat.{ℕ}
 use denote.Ref.{now}
 use lib.ListN.{length}
 use Rattle.answer.specs.Answer.{Outcome, onAccepted}
-use Rattle.answer.specs.Packed.{Field, packed, byte}
+use Rattle.answer.specs.Packed.{Field, packed}
 use Rattle.omnistat.specs.declared.frame.End.the-variants.{Host}
 use Rattle.omnistat.specs.Group.{replyType, replyLength}
-use Rattle.omnistat.specs.Message.{Message, acknowledge, negative, dataFrom, group, ofLength}
-use Rattle.omnistat.specs.Omnistat.{addressed}
-use Rattle.omnistat.specs.Answer.{fields}
+use Rattle.omnistat.specs.Message.{Counted, acknowledge, negative, dataFrom, group, ofLength}
+use Rattle.omnistat.specs.Omnistat.{addressedCounted}
+use Rattle.omnistat.specs.Answer.{countedFields, fields}
 use Rattle.omnistat.specs.Parts.{namedOf}
 use Rattle.omnistat.proofs.Laws.Check.{length-same, length-twice, run-twice}
 use Rattle.omnistat.proofs.Laws.Message.{names-acknowledge, names-negative, names-data, names-group}
@@ -18,11 +18,11 @@ use borrow.Author.Needs.{needs}
 use Rattle.omnistat.proofs.reply.pack.Statement.{statement}
 use Rattle.omnistat.proofs.reply.pack.Tie as tie
 
-abbrev packedAs : ℕ → Outcome (Message Host) → ℕ
-packedAs number o = packed (onAccepted (fields Host) (onAccepted (addressed number) o))
+abbrev packedAs : ℕ → Outcome (Counted Host) → ℕ
+packedAs number o = packed (onAccepted (fields Host) (onAccepted (addressedCounted Host number) o))
 
 abbrev told : ℕ → ℕ → ℕ → List Field
-told kind number count = byte kind ∷ byte number ∷ byte 0 ∷ byte count ∷ []
+told kind number count = countedFields kind number 0 count
 
 pack-fixed-requires : tie.Need-pack-fixed-requires
 pack-fixed-requires c κs = search needs
@@ -32,7 +32,7 @@ returns c =
     let a = c .before .before .before .args in
     let d = now (a .payload) in
     c .pack-fixed .ensures
-    ∙ ap packed (length-twice (addressed (a .number)) (fields Host) d 0 acknowledge)
+    ∙ ap packed (length-twice (addressedCounted Host (a .number)) (fields Host) d 0 acknowledge)
     ∙ ap (packedAs (a .number)) (sym (names-acknowledge (a .kind) d (c .before .if1 .taken)))
 
 pack-fixed-requires-2 : tie.Need-pack-fixed-requires-2
@@ -43,7 +43,7 @@ returns-2 c =
     let a = c .before .before .before .before .args in
     let d = now (a .payload) in
     c .pack-fixed2 .ensures
-    ∙ ap packed (length-twice (addressed (a .number)) (fields Host) d 0 negative)
+    ∙ ap packed (length-twice (addressedCounted Host (a .number)) (fields Host) d 0 negative)
     ∙ ap (packedAs (a .number)) (sym (names-negative (a .kind) d (c .before .if2 .taken)))
 
 pack-run-requires : tie.Need-pack-run-requires
@@ -54,7 +54,7 @@ returns-3 c =
     let a = c .before .before .before .before .before .args in
     let d = now (a .payload) in
     c .pack-run .ensures
-    ∙ ap packed (run-twice (addressed (a .number)) (fields Host) d dataFrom)
+    ∙ ap packed (run-twice (addressedCounted Host (a .number)) (fields Host) d dataFrom)
     ∙ ap (packedAs (a .number)) (sym (names-data (a .kind) d (c .before .if3 .taken)))
 
 replied-requires : tie.Need-replied-requires
@@ -85,7 +85,7 @@ returns-4 c =
     ∙ ap (λ (n : ℕ). packed (ofLength n d (told (a .kind) (a .number) n))) (c .before .reply-length .ensures)
     ∙ ap packed (length-same (replyLength g) d (told (a .kind) (a .number)))
     ∙ ap (λ (k : ℕ). packed (ofLength (replyLength g) d (told k (a .number) (length d)))) (sym (found-group replyType (a .kind) g (sym named)))
-    ∙ ap packed (length-twice (addressed (a .number)) (fields Host) d (replyLength g) (group g d))
+    ∙ ap packed (length-twice (addressedCounted Host (a .number)) (fields Host) d (replyLength g) (group g d))
     ∙ ap (packedAs (a .number))
     (sym (names-group (a .kind) d (c .before .before .before .before .before .before .before .before .if1 .left) (c .before .before .before .before .before .before .before .if2 .left) (c .before .before .before .before .before .before .if3 .left) _ named))
 

@@ -3,7 +3,7 @@ use Prim.Native.Nat.{ℕ}
 use denote.Ref.{now}
 use Rattle.omnistat.specs.declared.frame.End.the-variants.{Host}
 use Rattle.omnistat.specs.Message.{group}
-use Rattle.omnistat.specs.Omnistat.{write, writeBytes}
+use Rattle.omnistat.specs.Omnistat.{counted, write, writeBytes}
 use Rattle.omnistat.proofs.Laws.Output.{leaves-same}
 use borrow.Author.Needs.{needs}
 use Rattle.omnistat.proofs.reply.write_group.Statement.{statement}
@@ -21,7 +21,7 @@ same-length c = search needs
 returns : tie.Need-returns
 returns c =
     let a = c .before .before .before .before .before .before .before .args in
-    leaves-same (now (a .out)) (write Host (a .number) (group (a .group) (now (a .values)))) _ _ _
+    leaves-same (now (a .out)) (write Host (a .number) (counted (group (a .group) (now (a .values))))) _ _ _
     (ap (λ (k : ℕ). writeBytes Host (a .number) k (now (a .values))) (sym (c .before .before .before .before .reply-type .ensures)))
     (c .before .before .write .ensures)
 

@@ -4,8 +4,9 @@ use denote.Ref.{now}
 use lib.ListN.{length}
 use Rattle.answer.specs.Answer.{accepted, onAccepted, numberOf}
 use Rattle.answer.proofs.Laws.Test.{still-refused}
+use Rattle.omnistat.specs.declared.frame.End.the-variants.{Thermostat}
 use Rattle.omnistat.specs.Message.{asPoll}
-use Rattle.omnistat.specs.Omnistat.{addressed}
+use Rattle.omnistat.specs.Omnistat.{addressedCounted}
 use Rattle.omnistat.specs.Parts.{passed, checkOf}
 use Rattle.omnistat.proofs.Laws.Check.{poll-accepted}
 use borrow.Author.Needs.{needs}
@@ -37,7 +38,7 @@ shared-slice-read-t9 c = omega (arith, two (c .before .before))
 returns : tie.Need-returns
 returns c rest =
     let a = c .before .before .before .before .before .args in
-    ap (onAccepted (addressed (a .first)))
+    ap (onAccepted (addressedCounted Thermostat (a .first)))
     (sym
     (still-refused passed (asPoll (now (a .payload))) (numberOf (c .before .r .given .0 .0))
     (sym (ap checkOf (sym (c .before .r .given .1)) ∙ c .before .before .before .check-poll .ensures))))
@@ -45,7 +46,7 @@ returns c rest =
 returns-2 : tie.Need-returns-2
 returns-2 c rest =
     let a = c .before .before .before .before .before .before .args in
-    ap (onAccepted (addressed (a .first))) (poll-accepted (now (a .payload)) (went-on (c .before .before)) .1)
+    ap (onAccepted (addressedCounted Thermostat (a .first))) (poll-accepted (now (a .payload)) (went-on (c .before .before)) .1)
 
 pub as-poll-spec : {M : Type 1} → statement M
 as-poll-spec =

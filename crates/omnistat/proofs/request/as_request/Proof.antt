@@ -1,7 +1,8 @@
 use mathlib.Core.Path.{sym, ap, _∙_}
 use denote.Ref.{now}
 use Rattle.answer.specs.Answer.{onAccepted}
-use Rattle.omnistat.specs.Omnistat.{addressed}
+use Rattle.omnistat.specs.declared.frame.End.the-variants.{Thermostat}
+use Rattle.omnistat.specs.Omnistat.{addressedCounted}
 use Rattle.omnistat.specs.Parts.{namedOf}
 use Rattle.omnistat.proofs.Laws.Message.{names-poll, names-set, names-group-poll}
 use borrow.Author.Needs.{needs}
@@ -14,7 +15,7 @@ as-poll-requires c κs = search needs
 returns : tie.Need-returns
 returns c rest =
     let a = c .before .before .before .args in
-    c .as-poll .ensures rest ∙ ap (onAccepted (addressed (a .first))) (sym (names-poll (a .kind) (now (a .payload)) (c .before .if1 .taken)))
+    c .as-poll .ensures rest ∙ ap (onAccepted (addressedCounted Thermostat (a .first))) (sym (names-poll (a .kind) (now (a .payload)) (c .before .if1 .taken)))
 
 as-set-requires : tie.Need-as-set-requires
 as-set-requires c κs = search needs
@@ -22,7 +23,7 @@ as-set-requires c κs = search needs
 returns-2 : tie.Need-returns-2
 returns-2 c rest =
     let a = c .before .before .before .before .args in
-    c .as-set .ensures rest ∙ ap (onAccepted (addressed (a .first))) (sym (names-set (a .kind) (now (a .payload)) (c .before .if2 .taken)))
+    c .as-set .ensures rest ∙ ap (onAccepted (addressedCounted Thermostat (a .first))) (sym (names-set (a .kind) (now (a .payload)) (c .before .if2 .taken)))
 
 polled-requires : tie.Need-polled-requires
 polled-requires c κs = search needs
@@ -40,7 +41,7 @@ returns-3 : tie.Need-returns-3
 returns-3 c rest =
     let a = c .before .before .before .before .before .before .before .before .args in
     c .as-group-poll .ensures rest
-    ∙ ap (onAccepted (addressed (a .first)))
+    ∙ ap (onAccepted (addressedCounted Thermostat (a .first)))
     (sym
     (names-group-poll (a .kind) (now (a .payload)) (c .before .before .before .before .before .before .if1 .left) (c .before .before .before .before .before .if2 .left) _
     (ap namedOf (sym (c .before .before .group .given .1)) ∙ c .before .before .before .before .polled .ensures)))
@@ -48,7 +49,7 @@ returns-3 c rest =
 returns-4 : tie.Need-returns-4
 returns-4 c rest =
     let a = c .before .before .before .before .before .before .args in
-    ap (onAccepted (addressed (a .first)))
+    ap (onAccepted (addressedCounted Thermostat (a .first)))
     (sym
     (names-group-poll (a .kind) (now (a .payload)) (c .before .before .before .before .if1 .left) (c .before .before .before .if2 .left) _
     (ap namedOf (sym (c .enum-told .given .1)) ∙ c .before .before .polled .ensures)))

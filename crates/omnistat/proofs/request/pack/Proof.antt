@@ -1,14 +1,13 @@
 use mathlib.Core.Path.{sym, ap, _∙_}
-use mathlib.Core.List.{[], _∷_}
 use Prim.Native.Nat.{ℕ}
 use denote.Ref.{now}
 use Rattle.answer.specs.Answer.{Outcome, onAccepted}
-use Rattle.answer.specs.Packed.{packed, byte}
+use Rattle.answer.specs.Packed.{packed}
 use Rattle.omnistat.specs.declared.frame.End.the-variants.{Thermostat}
 use Rattle.omnistat.specs.Group.{pollType}
-use Rattle.omnistat.specs.Message.{Message, setFrom, pollGroup, ofLength}
-use Rattle.omnistat.specs.Omnistat.{addressed}
-use Rattle.omnistat.specs.Answer.{fields}
+use Rattle.omnistat.specs.Message.{Counted, setFrom, pollGroup, ofLength}
+use Rattle.omnistat.specs.Omnistat.{addressedCounted}
+use Rattle.omnistat.specs.Answer.{countedFields, fields}
 use Rattle.omnistat.specs.Parts.{namedOf}
 use Rattle.omnistat.proofs.Laws.Check.{length-twice, run-twice}
 use Rattle.omnistat.proofs.Laws.Message.{names-poll, names-set, names-group-poll}
@@ -17,8 +16,8 @@ use borrow.Author.Needs.{needs}
 use Rattle.omnistat.proofs.request.pack.Statement.{statement}
 use Rattle.omnistat.proofs.request.pack.Tie as tie
 
-abbrev packedAs : ℕ → Outcome (Message Thermostat) → ℕ
-packedAs first o = packed (onAccepted (fields Thermostat) (onAccepted (addressed first) o))
+abbrev packedAs : ℕ → Outcome (Counted Thermostat) → ℕ
+packedAs first o = packed (onAccepted (fields Thermostat) (onAccepted (addressedCounted Thermostat first) o))
 
 pack-poll-requires : tie.Need-pack-poll-requires
 pack-poll-requires c κs = search needs
@@ -36,7 +35,7 @@ returns-2 c =
     let a = c .before .before .before .before .args in
     let d = now (a .payload) in
     c .pack-run .ensures
-    ∙ ap packed (run-twice (addressed (a .first)) (fields Thermostat) d setFrom)
+    ∙ ap packed (run-twice (addressedCounted Thermostat (a .first)) (fields Thermostat) d setFrom)
     ∙ ap (packedAs (a .first)) (sym (names-set (a .kind) d (c .before .if2 .taken)))
 
 polled-requires : tie.Need-polled-requires
@@ -61,8 +60,8 @@ returns-3 c =
     let g = c .before .enum-told .given .0 .0 in
     let named = ap namedOf (sym (c .before .enum-told .given .1)) ∙ c .before .before .before .polled .ensures in
     c .pack-fixed .ensures
-    ∙ ap (λ (k : ℕ). packed (ofLength 0 d (byte k ∷ byte (a .first) ∷ byte 0 ∷ byte 0 ∷ []))) (sym (found-group pollType (a .kind) g (sym named)))
-    ∙ ap packed (length-twice (addressed (a .first)) (fields Thermostat) d 0 (pollGroup g))
+    ∙ ap (λ (k : ℕ). packed (ofLength 0 d (countedFields k (a .first) 0 0))) (sym (found-group pollType (a .kind) g (sym named)))
+    ∙ ap packed (length-twice (addressedCounted Thermostat (a .first)) (fields Thermostat) d 0 (pollGroup g))
     ∙ ap (packedAs (a .first)) (sym (names-group-poll (a .kind) d (c .before .before .before .before .before .if1 .left) (c .before .before .before .before .if2 .left) _ named))
 
 returns-4 : tie.Need-returns-4

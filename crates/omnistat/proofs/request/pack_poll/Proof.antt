@@ -7,8 +7,8 @@ use Rattle.answer.specs.Answer.{Outcome, accepted, onAccepted, numberOf}
 use Rattle.answer.specs.Packed.{packed}
 use Rattle.answer.proofs.Laws.Test.{still-refused}
 use Rattle.omnistat.specs.declared.frame.End.the-variants.{Thermostat}
-use Rattle.omnistat.specs.Message.{Message, asPoll}
-use Rattle.omnistat.specs.Omnistat.{addressed}
+use Rattle.omnistat.specs.Message.{Counted, asPoll}
+use Rattle.omnistat.specs.Omnistat.{addressedCounted}
 use Rattle.omnistat.specs.Answer.{fields}
 use Rattle.omnistat.specs.Parts.{passed, checkOf}
 use Rattle.omnistat.proofs.Laws.Check.{poll-accepted}
@@ -16,8 +16,8 @@ use borrow.Author.Needs.{needs}
 use Rattle.omnistat.proofs.request.pack_poll.Statement.{statement}
 use Rattle.omnistat.proofs.request.pack_poll.Tie as tie
 
-abbrev packedAs : ℕ → Outcome (Message Thermostat) → ℕ
-packedAs first o = packed (onAccepted (fields Thermostat) (onAccepted (addressed first) o))
+abbrev packedAs : ℕ → Outcome (Counted Thermostat) → ℕ
+packedAs first o = packed (onAccepted (fields Thermostat) (onAccepted (addressedCounted Thermostat first) o))
 
 -- the data bytes passed their check
 went-on : (c : tie.After-enum-told) → accepted tt ≡ onAccepted passed (asPoll (now (c .before .before .before .before .args .payload)))

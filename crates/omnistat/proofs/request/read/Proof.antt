@@ -1,63 +1,32 @@
-use mathlib.Core.Path.{sym, ap, _∙_}
-use mathlib.Core.List.{List}
-use Prim.Native.Nat.{ℕ}
-use lib.ListN.{take, drop}
+use mathlib.Core.Path.{sym, _∙_}
 use denote.Ref.{now}
-use Rattle.answer.specs.Answer.{onAccepted, numberOf}
 use Rattle.omnistat.specs.declared.frame.End.the-variants.{Thermostat}
-use Rattle.omnistat.specs.Frame.{Frame, addressOf}
-use Rattle.omnistat.specs.Message.{asMessage}
-use Rattle.omnistat.specs.Omnistat.{addressed}
-use Rattle.omnistat.specs.Parts.{framedIn}
-use Rattle.omnistat.proofs.Laws.Omnistat.{read-refused, read-whole}
-use Rattle.omnistat.proofs.Laws.Heard.{request-in}
+use Rattle.omnistat.proofs.Laws.Omnistat.{read-counted, read-text}
+use Rattle.omnistat.proofs.Laws.Text.{at-least-three}
 use borrow.Author.Needs.{needs}
 use Rattle.omnistat.proofs.request.read.Statement.{statement}
 use Rattle.omnistat.proofs.request.read.Tie as tie
 
-read-requires : tie.Need-read-requires
-read-requires c κs = search needs
+carries-text-requires : tie.Need-carries-text-requires
+carries-text-requires c κs = search needs
 
-enum-known-r : tie.Need-enum-known-r
-enum-known-r c = search needs
-
-enum-known-first : tie.Need-enum-known-first
-enum-known-first c = search needs
-
-cast-part : tie.Need-cast-part
-cast-part c = search needs
-
-part-requires : tie.Need-part-requires
-part-requires c κs = search needs
-
-as-request-requires : tie.Need-as-request-requires
-as-request-requires c κs = search needs
+read-text-requires : tie.Need-read-text-requires
+read-text-requires c κs = at-least-three Thermostat (now (c .before .before .before .args .bytes)) (sym (c .before .carries-text .ensures) ∙ c .if1 .taken)
 
 returns : tie.Need-returns
 returns c =
-    let s = now (c .before .before .before .before .before .args .bytes) in
-    sym
-    (read-refused Thermostat s (numberOf (c .before .r .given .0 .0))
-    (ap (framedIn s) (sym (c .before .r .given .1)) ∙ c .before .before .before .read .ensures))
+    let test = c .before in
+    c .read-text .ensures ∙ sym (read-text Thermostat (now (test .before .before .before .args .bytes)) (sym (test .before .carries-text .ensures) ∙ test .if1 .taken))
+
+read-counted-requires : tie.Need-read-counted-requires
+read-counted-requires c κs = search needs
 
 returns-2 : tie.Need-returns-2
 returns-2 c =
-    let s = now (c .before .before .before .before .before .before .before .args .bytes) in
-    let w = c .before .before .before .first .given in
-    let f : Frame = record { first = w .0 .0; kind = w .0 .1 .0; payload = take (w .0 .1 .1 .0) (drop 2 s) } in
-    request-in s _ (w .0 .1 .1 .0) (c .before .part .ensures) (c .as-request .result) _ (c .as-request .ensures)
-    ∙ ap (λ (d : List ℕ). onAccepted (addressed (addressOf Thermostat (f .first))) (asMessage Thermostat (f .kind) d)) (c .before .part .ensures)
-    ∙ sym (read-whole Thermostat s f (ap (framedIn s) (sym (w .1)) ∙ c .before .before .before .before .before .read .ensures))
+    let test = c .before in
+    c .read-counted .ensures ∙ sym (read-counted Thermostat (now (test .before .before .before .args .bytes)) (sym (test .before .carries-text .ensures) ∙ test .if1 .left))
 
 pub read-spec : {M : Type 1} → statement M
 read-spec =
     tie.close
-    (tie.spec
-    read-requires
-    enum-known-r
-    enum-known-first
-    cast-part
-    part-requires
-    as-request-requires
-    returns
-    returns-2)
+    (tie.spec carries-text-requires read-text-requires returns read-counted-requires returns-2)

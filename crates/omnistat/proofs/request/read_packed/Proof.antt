@@ -1,73 +1,45 @@
 use mathlib.Core.Path.{sym, ap, _∙_}
-use mathlib.Core.List.{List}
-use Prim.Native.Nat.{ℕ}
 use denote.Ref.{now}
-use lib.ListN.{take, drop}
-use Rattle.answer.specs.Answer.{Outcome, onAccepted, numberOf}
+use Rattle.answer.specs.Answer.{Outcome, onAccepted}
 use Rattle.answer.specs.Packed.{packed}
+use Rattle.answer.proofs.Laws.Test.{in-one}
 use Rattle.omnistat.specs.declared.frame.End.the-variants.{Thermostat}
-use Rattle.omnistat.specs.Frame.{Frame, addressOf}
-use Rattle.omnistat.specs.Message.{Message, asMessage}
-use Rattle.omnistat.specs.Omnistat.{Addressed, addressed}
+use Rattle.omnistat.specs.Text.{readText}
+use Rattle.omnistat.specs.Omnistat.{Message, Addressed, addressedText}
 use Rattle.omnistat.specs.Answer.{fields}
-use Rattle.omnistat.specs.Parts.{framedIn}
-use Rattle.omnistat.proofs.Laws.Omnistat.{read-refused, read-whole}
+use Rattle.omnistat.proofs.Laws.Omnistat.{read-counted, read-text}
+use Rattle.omnistat.proofs.Laws.Text.{at-least-three}
 use borrow.Author.Needs.{needs}
 use Rattle.omnistat.proofs.request.read_packed.Statement.{statement}
 use Rattle.omnistat.proofs.request.read_packed.Tie as tie
 
-abbrev packedAs : Outcome (Addressed (Message Thermostat)) → ℕ
-packedAs o = packed (onAccepted (fields Thermostat) o)
-
-read-requires : tie.Need-read-requires
-read-requires c κs = search needs
-
-enum-known-r : tie.Need-enum-known-r
-enum-known-r c = search needs
-
-pack-refusal-requires : tie.Need-pack-refusal-requires
-pack-refusal-requires c κs = search needs
-
-enum-known-first : tie.Need-enum-known-first
-enum-known-first c = search needs
-
-cast-part : tie.Need-cast-part
-cast-part c = search needs
-
-part-requires : tie.Need-part-requires
-part-requires c κs = search needs
+carries-text-requires : tie.Need-carries-text-requires
+carries-text-requires c κs = search needs
 
 pack-requires : tie.Need-pack-requires
-pack-requires c κs = search needs
+pack-requires c κs = at-least-three Thermostat (now (c .before .before .before .args .bytes)) (sym (c .before .carries-text .ensures) ∙ c .if1 .taken)
 
 returns : tie.Need-returns
 returns c =
-    let s = now (c .before .before .before .before .before .before .args .bytes) in
-    c .pack-refusal .ensures
-    ∙ ap packedAs
-    (sym
-    (read-refused Thermostat s (numberOf (c .before .before .r .given .0 .0))
-    (ap (framedIn s) (sym (c .before .before .r .given .1)) ∙ c .before .before .before .before .read .ensures)))
+    let test = c .before in
+    let s = now (test .before .before .before .args .bytes) in
+    c .pack .ensures
+    ∙ ap packed (sym (in-one (addressedText Thermostat) (fields Thermostat) (readText Thermostat s)))
+    ∙ ap (λ (o : Outcome (Addressed (Message Thermostat))). packed (onAccepted (fields Thermostat) o))
+    (sym (read-text Thermostat s (sym (test .before .carries-text .ensures) ∙ test .if1 .taken)))
+
+pack-counted-requires : tie.Need-pack-counted-requires
+pack-counted-requires c κs = search needs
 
 returns-2 : tie.Need-returns-2
 returns-2 c =
-    let s = now (c .before .before .before .before .before .before .before .args .bytes) in
-    let w = c .before .before .before .first .given in
-    let f : Frame = record { first = w .0 .0; kind = w .0 .1 .0; payload = take (w .0 .1 .1 .0) (drop 2 s) } in
-    c .pack .ensures
-    ∙ ap (λ (d : List ℕ). packedAs (onAccepted (addressed (addressOf Thermostat (f .first))) (asMessage Thermostat (f .kind) d))) (c .before .part .ensures)
-    ∙ ap packedAs (sym (read-whole Thermostat s f (ap (framedIn s) (sym (w .1)) ∙ c .before .before .before .before .before .read .ensures)))
+    let test = c .before in
+    let s = now (test .before .before .before .args .bytes) in
+    c .pack-counted .ensures
+    ∙ ap (λ (o : Outcome (Addressed (Message Thermostat))). packed (onAccepted (fields Thermostat) o))
+    (sym (read-counted Thermostat s (sym (test .before .carries-text .ensures) ∙ test .if1 .left)))
 
 pub read-packed-spec : {M : Type 1} → statement M
 read-packed-spec =
     tie.close
-    (tie.spec
-    read-requires
-    enum-known-r
-    pack-refusal-requires
-    enum-known-first
-    cast-part
-    part-requires
-    pack-requires
-    returns
-    returns-2)
+    (tie.spec carries-text-requires pack-requires returns pack-counted-requires returns-2)

@@ -4,7 +4,7 @@ use Prim.Native.Nat.{ℕ}
 use denote.Ref.{now}
 use Rattle.omnistat.specs.declared.frame.End.the-variants.{Thermostat}
 use Rattle.omnistat.specs.Message.{pollGroup}
-use Rattle.omnistat.specs.Omnistat.{write, writeBytes}
+use Rattle.omnistat.specs.Omnistat.{counted, write, writeBytes}
 use Rattle.omnistat.proofs.Laws.Output.{leaves-same}
 use borrow.Author.Needs.{needs}
 use Rattle.omnistat.proofs.request.write_group_poll.Statement.{statement}
@@ -28,7 +28,7 @@ same-length c = search needs
 returns : tie.Need-returns
 returns c =
     let a = c .before .before .before .before .before .before .before .args in
-    leaves-same (now (a .out)) (write Thermostat (a .address) (pollGroup (a .group))) _ _ _
+    leaves-same (now (a .out)) (write Thermostat (a .address) (counted (pollGroup (a .group)))) _ _ _
     (ap (λ (k : ℕ). writeBytes Thermostat (a .address) k []) (sym (c .before .before .before .before .before .poll-type .ensures)))
     (c .before .before .write .ensures)
 

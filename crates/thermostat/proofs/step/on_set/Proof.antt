@@ -1,8 +1,10 @@
-use borrow.Author.Needs.{needs}
 use borrow.Author.Tests.{not-true, not-false}
 use mathlib.Core.Path.{sym, _∙_}
 use Rattle.omnistat.specs.Message.{setFrom}
-use Rattle.thermostat.proofs.Laws.Step.{confirmed, unheard, unheard-map, heard-map, unanswered, answered}
+use Rattle.omnistat.specs.Omnistat.{counted}
+use Rattle.thermostat.specs.Step.{registerReply, changed}
+use Rattle.thermostat.proofs.Laws.Step.{confirmed, unheard, unheard-after, heard-after, unanswered, answered}
+use borrow.Author.Needs.{needs}
 use Rattle.thermostat.proofs.step.on_set.Statement.{statement}
 use Rattle.thermostat.proofs.step.on_set.Tie as tie
 
@@ -15,8 +17,8 @@ returns c =
     let m = a .map .now in
     let q = setFrom (a .start) (a .values .now) in
     let e = sym (c .before .is-heard .ensures) ∙ not-true _ (c .if1 .taken) in
-    let s = unheard (a .own) (a .first) m q (a .out .now) e in
-    (s .0, (sym (unheard-map (a .own) (a .first) m q e), s .1))
+    let s = unheard (a .own) (a .first) (counted (registerReply m q)) (a .out .now) e in
+    (s .0, (sym (unheard-after (a .own) (a .first) (changed m (counted q)) m e), s .1))
 
 change-requires : tie.Need-change-requires
 change-requires c κs = search needs
@@ -31,8 +33,8 @@ returns-2 c =
     let m = a .map .now in
     let q = setFrom (a .start) (a .values .now) in
     let e = sym (test .is-heard .ensures) ∙ not-false _ (c .before .before .before .before .before .if1 .left) in
-    let s = unanswered (a .own) (a .first) m q (a .out .now) e (c .if2 .taken) in
-    (s .0, (c .before .before .before .change .ensures .1 ∙ sym (heard-map (a .own) (a .first) m q e), s .1))
+    let s = unanswered (a .own) (a .first) (counted (registerReply m q)) (a .out .now) e (c .if2 .taken) in
+    (s .0, (c .before .before .before .change .ensures .1 ∙ sym (heard-after (a .own) (a .first) (changed m (counted q)) m e), s .1))
 
 confirm-requires : tie.Need-confirm-requires
 confirm-requires c κs = search needs
@@ -53,9 +55,9 @@ returns-3 c =
     let e = sym (heard .is-heard .ensures) ∙ not-false _ (test .before .before .before .before .before .if1 .left) in
     let changes = test .before .before .before .change in
     let s =
-    answered (a .own) (a .first) m q (a .out .now) e (test .if2 .left) _ _
+    answered (a .own) (a .first) (counted (registerReply m q)) (a .out .now) e (test .if2 .left) _ _
     (confirmed (a .own) (a .start) m (a .values .now) (a .out .now) (changes .result) (changes .ensures .0) _ _ (c .before .before .confirm .ensures)) in
-    (s .0, (changes .ensures .1 ∙ sym (heard-map (a .own) (a .first) m q e), s .1))
+    (s .0, (changes .ensures .1 ∙ sym (heard-after (a .own) (a .first) (changed m (counted q)) m e), s .1))
 
 pub on-set-spec : {M : Type 1} → statement M
 on-set-spec =
