@@ -212,6 +212,17 @@ static void read_both(const uint8_t *bytes, size_t len)
     CHECK(kept_from(&in, 0));
 }
 
+/* A writer answered and wrote as the model does, and left the rest alone: the count of bytes written, 0 where it refused. */
+static size_t check_written(uint64_t got, uint64_t wanted, const uint8_t *written, const uint8_t *want)
+{
+    size_t count = answer_of(got) == 0 ? bits_of(got, 8, 16) : 0;
+    SAME(got, wanted);
+    CHECK(kept_from(&in, 0));
+    CHECK(memcmp(written, want, count) == 0);
+    CHECK(kept_from(&out, count));
+    return count;
+}
+
 /* Writes as the model does, and what was written is read back as the same. */
 static void write_one(enum end end, unsigned address, unsigned type, const uint8_t *data, size_t n, size_t room)
 {
@@ -221,15 +232,10 @@ static void write_one(enum end end, unsigned address, unsigned type, const uint8
     uint8_t *lent_out = lend(&out, room);
     uint64_t got = end == THERMOSTAT ? omnistat_write_to_thermostat((uint8_t)address, (uint8_t)type, lent_data, n, lent_out, room)
                                      : omnistat_write_to_host((uint8_t)address, (uint8_t)type, lent_data, n, lent_out, room);
-    SAME(got, wanted);
-    CHECK(kept_from(&in, 0));
-    if (answer_of(got) != 0) {
-        CHECK(kept_from(&out, 0));
+    size_t written = check_written(got, wanted, lent_out, want);
+    if (written == 0) {
         return;
     }
-    size_t written = bits_of(got, 8, 16);
-    CHECK(memcmp(lent_out, want, written) == 0);
-    CHECK(kept_from(&out, written));
     uint64_t back = ours_read(end, lent_out, written);
     SAME(answer_of(back), 0);
     SAME(bits_of(back, 8, 8), type);
@@ -246,15 +252,10 @@ static void write_text(struct text_head h, const uint8_t *text, size_t n, size_t
     uint8_t address = (uint8_t)h.address, half = (uint8_t)h.half, start = (uint8_t)h.start;
     uint64_t got = h.end == THERMOSTAT ? omnistat_write_text_to_thermostat(address, half, start, lent_text, n, lent_out, room)
                                        : omnistat_write_text_to_host(address, half, start, lent_text, n, lent_out, room);
-    SAME(got, wanted);
-    CHECK(kept_from(&in, 0));
-    if (answer_of(got) != 0) {
-        CHECK(kept_from(&out, 0));
+    size_t written = check_written(got, wanted, lent_out, want);
+    if (written == 0) {
         return;
     }
-    size_t written = bits_of(got, 8, 16);
-    CHECK(memcmp(lent_out, want, written) == 0);
-    CHECK(kept_from(&out, written));
     SAME(ours_read(h.end, lent_out, written), packed(h.end == THERMOSTAT ? 1 : 2, h.address, h.start, (unsigned)n, h.half));
     CHECK(memcmp(lent_out + 3, text, n) == 0);
 }
