@@ -19,13 +19,13 @@ static void frame_write(void) { sink = omnilink_frame_write(0x16, input, 64, out
 static void message_read(void) { sink = omnilink_message_read(frame, frame_len); }
 static void message_write(void) { sink = omnilink_message_write(0x16, input, 64, out, sizeof out); }
 static void zone(void) { sink = omnilink_zone(frame, frame_len, 31); }
-static void omnistat_write(void) { sink = omnistat_write_to_thermostat(1, 1, (const uint8_t[]){59, 80}, 2, out, sizeof out); }
+static void omnistat_write(void) { sink = omnistat_write_to_thermostat(1, 1, (const uint8_t[]){59, 124}, 2, out, sizeof out); }
 static void write_text(void) { sink = omnistat_write_text_to_thermostat(1, 0, 175, (const uint8_t *)"low", 3, out, sizeof out); }
 static void take(const uint8_t *bytes, size_t len)
 {
     sink = thermostat_step(1, map, sizeof map, texts, sizeof texts, bytes, len, out, sizeof out);
 }
-static void step(void) { take((const uint8_t[]){0x01, 0x21, 0x3B, 0x50, 0xAD}, 5); }
+static void step(void) { take((const uint8_t[]){0x01, 0x21, 0x3B, 0x7C, 0xD9}, 5); }
 static void group(void) { take((const uint8_t[]){0x01, 0x04, 0x05}, 3); }
 static void text_set(void) { take((const uint8_t[]){0x01, 0x01, 0xAF, 'H', 'I', 0x03, 0x45}, 7); }
 static void text_poll(void) { take((const uint8_t[]){0x01, 0x20, 0xAF, 0x01, 0xD1}, 5); }

@@ -9,10 +9,10 @@ static uint8_t listed[256], writable[256], low[256], high[256];
 static void fill_rules(void)
 {
     static const uint8_t read_only[] = {64, 71, 72, 73, 162, 170, 171};
-    static const uint8_t ranges[][3] = {{58, 0, 6},    {59, 51, 91}, {60, 51, 91}, {163, 51, 91}, {164, 51, 91}, {61, 0, 4},   {62, 0, 2},
-                                        {63, 0, 2},    {131, 0, 2},  {136, 0, 2},  {139, 0, 2},   {132, 0, 126}, {137, 0, 1},  {161, 0, 3},
-                                        {65, 0, 59},   {66, 0, 59},  {67, 0, 23},  {70, 0, 4},    {138, 1, 19},  {140, 0, 100}, {141, 1, 10},
-                                        {143, 2, 30},  {144, 2, 30}, {145, 2, 30}, {168, 0, 99}};
+    static const uint8_t ranges[][3] = {
+        {58, 0, 6},  {59, 102, 145}, {60, 102, 145}, {163, 102, 145}, {164, 102, 145}, {61, 0, 4},  {62, 0, 2},    {63, 0, 2},  {131, 0, 2},
+        {136, 0, 2}, {139, 0, 2},    {132, 0, 126},  {137, 0, 1},     {161, 0, 3},     {65, 0, 59}, {66, 0, 59},   {67, 0, 23}, {70, 0, 4},
+        {138, 1, 19}, {140, 0, 100}, {141, 1, 10},   {143, 2, 30},    {144, 2, 30},    {145, 2, 30}, {168, 0, 99}};
     for (int r = 0; r < 256; r++) {
         listed[r] = r == 15 || (r >= 18 && r <= 68) || (r >= 70 && r <= 122) || (r >= 131 && r <= 145) || (r >= 158 && r <= 171);
         writable[r] = listed[r];
@@ -170,8 +170,8 @@ int main(void)
     memset(start, 0xA5, sizeof start);
     hold_texts(0);
     for (unsigned i = 0; i < MESSAGES; i++) {
-        memcpy(one[i], (const uint8_t[]){(uint8_t)(59 + i % 2), (uint8_t)(51 + i % 40)}, 2);
-        memcpy(refused[i], (const uint8_t[]){(uint8_t)(59 + i % 2), (uint8_t)(92 + i)}, 2);
+        memcpy(one[i], (const uint8_t[]){(uint8_t)(59 + i % 2), (uint8_t)(102 + i % 44)}, 2);
+        memcpy(refused[i], (const uint8_t[]){(uint8_t)(59 + i % 2), (uint8_t)(146 + i)}, 2);
         memcpy(poll[i], (const uint8_t[]){(uint8_t)(18 + i % 36), 14}, 2);
         memcpy(text_poll[i], (const uint8_t[]){(uint8_t)(172 + i % 10), 1}, 2);
         memset(fourteen[i], (int)i, 15);

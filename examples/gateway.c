@@ -369,11 +369,11 @@ static void log_in(const struct line *line, struct stream *s, const char *code)
 
 /* ---- the demonstration: the devices at the other ends of the lines, each until the gateway closes its line */
 
-/* The model thermostat, in a cold store, with nothing on its display. Every third message finds another cost. */
+/* The model thermostat, in an office, with nothing on its display. Every third message finds another cost. */
 static void play_thermostat(int fd)
 {
     static const uint16_t costs[] = {34567, 9999, 9999, 12345, 65535, 65025};
-    uint8_t map[256] = {[COOL] = 89, [HEAT] = 82, [TEMPERATURE] = 87}, texts[THERMOSTAT_TEXTS] = {0};
+    uint8_t map[256] = {[COOL] = 130, [HEAT] = 116, [TEMPERATURE] = 125}, texts[THERMOSTAT_TEXTS] = {0};
     uint8_t bytes[OMNISTAT_MAX], reply[OMNISTAT_MAX] = {0};
     size_t len = 0;
     ssize_t n;
@@ -449,7 +449,8 @@ static int start_device(void (*play)(int fd))
 
 static void run(const struct line *thermostat, const struct line *controller, const char *code, bool demonstration)
 {
-    static const struct setpoints wishes[ROUNDS] = {[1] = {5.5f, 2.0f}, [2] = {22.0f, 2.0f}, [3] = {5.25f, 2.0f}};
+    /* taken; heat below the range of its register; cool no half degree */
+    static const struct setpoints wishes[ROUNDS] = {[1] = {22.0f, 19.5f}, [2] = {24.0f, 5.5f}, [3] = {22.25f, 19.5f}};
     static const char *const notices[ROUNDS] = {[4] = "power low"};
     static const uint8_t zones[] = {FIRST_ZONE, LAST_ZONE};
     struct tally tally = {0};

@@ -131,7 +131,7 @@ uint64_t omnilink_log_entry(const uint8_t *bytes, size_t len, size_t field);
    Types: 0 poll, 1 set, 2 to 4 poll of group 1 to 3, whose start and count are 0. The values of a set are the count
    bytes from bytes[3] on, and so are the characters of a text, which is a set with start 172 to 181. The first byte is 00 for
    all, 01 to 7F, or FA universal.
-   01 21 3B 50 AD is a set (1) with first byte 1, start 59, count 1, and the value 50 hex at bytes[3]. 01 21 AF, then the
+   01 21 3B 7C D9 is a set (1) with first byte 1, start 59, count 1, and the value 7C hex at bytes[3]. 01 21 AF, then the
    characters CUSTOM MESSAGE, 03 and D4, is a set with first byte 1, start 175, count 14, half-byte 2, and C at bytes[3]. */
 uint64_t omnistat_read_at_thermostat(const uint8_t *bytes, size_t len);
 
@@ -176,13 +176,15 @@ enum { THERMOSTAT_TEXTS = 610 };
    Refused, with map, texts and out unchanged: 9 room under 65, map_len not 256, or texts_len not THERMOSTAT_TEXTS; 8 own
    outside 1 to 127, or a store with a count above 60 or a character outside 20 to 7E hex within its count; then what
    omnistat_read_at_thermostat refuses. A poll of registers that meets an unlisted one gets a negative reply; so does a set that
-   meets a register that is unlisted or read only, or a byte out of its register's range, and it stores nothing. A poll of a
-   read-only register is answered with its content.
+   meets a register that is unlisted or read only, or a byte out of its register's range, and it stores nothing. The setpoints 59,
+   60, 163 and 164 take 51 to 91 degrees Fahrenheit: the bytes 102 to 145, 11 to 32.5 degrees Celsius. A poll of a read-only
+   register is answered with its content.
    The set of a text register stores its count and its characters and is acknowledged; a broadcast one is stored in silence. The
    bytes of the store past a count are not looked at, and stay. A poll of a text register is answered with its text as data,
    with half-byte 0.
-   At own 1, the message 01 21 3B 50 AD stores 50 hex in map[59] and writes 81 00 81; 00 21 3B 50 AC stores it too
-   and writes nothing. 01 01 AF 48 49 03 45 stores 02 48 49 hex from texts[183] on and writes 81 00 81; the poll
+   At own 1, the message 01 21 3B 7C D9 stores 7C hex, 22 degrees Celsius, in map[59] and writes 81 00 81; 00 21 3B 7C D8 stores
+   it too and writes nothing. 01 21 3B 50 AD stores nothing and writes 81 01 82, and 00 21 3B 50 AC neither stores nor writes:
+   50 hex is 32 degrees Fahrenheit. 01 01 AF 48 49 03 45 stores 02 48 49 hex from texts[183] on and writes 81 00 81; the poll
    01 20 AF 01 D1 then writes 81 02 AF 48 49 03 C6. */
 uint64_t thermostat_step(uint8_t own, uint8_t *map, size_t map_len, uint8_t *texts, size_t texts_len,
                          const uint8_t *bytes, size_t len, uint8_t *out, size_t room);
@@ -203,7 +205,8 @@ struct setpoints {
 struct setpoints setpoints_from_bytes(uint8_t cool, uint8_t heat);
 
 /* The two bytes of a setpoint pair: cool byte (8), heat byte (8). Refused 8 unless both values are exact half degrees from
-   -40 to 87.5; minus zero counts as zero. 22.5 and 20 are the bytes 125 and 120; 22.25 is refused. */
+   -40 to 87.5; minus zero counts as zero. 22.5 and 20 are the bytes 125 and 120; 22.25 is refused. A pair may
+   lie outside the range of registers 59 and 60. */
 uint64_t setpoints_to_bytes(struct setpoints pair);
 
 /* Cost */

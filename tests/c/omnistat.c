@@ -685,7 +685,7 @@ static void test_examples(void)
     uint8_t set_time[] = {0x00, 0x41, 0x41, 0x00, 0x1E, 0x0C, 0};
     SAME(omnistat_read_at_thermostat(set_time, summed(set_time, 6)), UINT64_C(0x0341000100));
 
-    const uint8_t set_cool[] = {0x01, 0x21, 0x3B, 0x50, 0xAD};
+    const uint8_t set_cool[] = {0x01, 0x21, 0x3B, 0x7C, 0xD9};
     SAME(omnistat_read_at_thermostat(set_cool, 5), UINT64_C(0x013B010100));
     uint8_t set_five[] = {0x05, 0x21, 0x3B, 0x7C, 0};
     SAME(omnistat_read_at_thermostat(set_five, summed(set_five, 4)), UINT64_C(0x013B050100));

@@ -21,7 +21,7 @@ static int takes(int r, int v)
 {
     switch (r) {
     case 58: return between(0, 6, v);
-    case 59: case 60: case 163: case 164: return between(51, 91, v);
+    case 59: case 60: case 163: case 164: return between(510, 910, 9 * v - 400);    /* tenths of a degree Fahrenheit */
     case 61: return between(0, 4, v);
     case 62: case 63: case 131: case 136: case 139: return between(0, 2, v);
     case 132: return v == 0 || v == 1 || v == 42 || v == 54 || v == 126;
@@ -207,6 +207,23 @@ static void single_sets(void)
     }
 }
 
+/* The setpoints take the bytes 102 to 145 and no other. */
+static void setpoint_sets(void)
+{
+    static const uint8_t registers[] = {59, 60, 163, 164};
+    for (size_t i = 0; i < sizeof registers; i++) {
+        for (int v = 0; v < 256; v++) {
+            const uint8_t data[2] = {registers[i], (uint8_t)v};
+            uint8_t in[8], *map = lend_copy(&map_lent, start_map, MAP), *texts = lend_copy(&texts_lent, start_texts, STORE);
+            uint8_t *out = lend(&out_lent, ROOM);
+            int stored = v >= 102 && v <= 145;
+            SAME(thermostat_step(1, map, MAP, texts, STORE, in, message(in, 1, 1, data, 2), out, ROOM), 3 << 8);
+            CHECK(out[0] == 0x81 && out[1] == (stored ? 0 : 1));
+            CHECK(stored ? map[registers[i]] == v : kept_from(&map_lent, 0));
+        }
+    }
+}
+
 /* A byte that the register takes, or one that it does not where there is one. */
 static int value_for(int r, int good)
 {
@@ -268,7 +285,7 @@ static void polls_and_groups(void)
 /* Every own address with every first byte: broadcast, FA, its own, another's, and what is no address. */
 static void addresses(void)
 {
-    static const uint8_t set[2] = {59, 80}, bad[2] = {59, 124}, poll[2] = {59, 6}, text_poll[2] = {175, 1}, shown[] = "power low";
+    static const uint8_t set[2] = {59, 124}, bad[2] = {59, 80}, poll[2] = {59, 6}, text_poll[2] = {175, 1}, shown[] = "power low";
     for (int own = 0; own < 256; own++) {
         for (int first = 0; first < 256; first++) {
             uint8_t in[24], shows[24];
@@ -290,7 +307,7 @@ static void addresses(void)
 
 static void refusals(void)
 {
-    uint8_t in[24], data[16] = {59, 80, 70};
+    uint8_t in[24], data[16] = {59, 124, 112};
     size_t len = message(in, 1, 1, data, 2);
     for (size_t room = 0; room < ROOM; room++) {
         step_refused(1, MAP, in, len, room, 9);
@@ -417,7 +434,7 @@ static void stores(void)
 {
     static const uint8_t wrong[] = {0x1F, 0x7F, 0x03, 0x00, 0xFF, 0x80, 0xA0};
     uint8_t in[8], set[8], store[STORE];
-    const uint8_t poll[2] = {59, 6}, setpoint[2] = {59, 80};
+    const uint8_t poll[2] = {59, 6}, setpoint[2] = {59, 124};
     size_t len = message(in, 1, 0, poll, 2), set_len = message(set, 0, 1, setpoint, 2);
     for (int k = 0; k < TEXTS; k++) {
         uint8_t *held = store + k * TEXT_SIZE;
@@ -467,7 +484,7 @@ static void order(void)
 {
     static uint8_t store[2 * STORE];
     uint8_t in[80], characters[61];
-    const uint8_t setpoint[2] = {59, 80};
+    const uint8_t setpoint[2] = {59, 124};
     memset(characters, 'o', sizeof characters);
     memcpy(store, start_texts, STORE);
     store[9 * TEXT_SIZE] = 61;
@@ -510,18 +527,21 @@ static void order(void)
 /* The paper's examples. */
 static void examples(void)
 {
-    static const uint8_t taken[5] = {0x01, 0x21, 0x3B, 0x50, 0xAD}, not_taken[5] = {0x01, 0x21, 0x3B, 0x7C, 0xD9};
-    static const uint8_t to_all[5] = {0x00, 0x21, 0x3B, 0x50, 0xAC}, unlisted[5] = {0x01, 0x20, 0x44, 0x02, 0x67};
+    static const uint8_t not_taken[5] = {0x01, 0x21, 0x3B, 0x50, 0xAD}, taken[5] = {0x01, 0x21, 0x3B, 0x7C, 0xD9};
+    static const uint8_t to_all_not_taken[5] = {0x00, 0x21, 0x3B, 0x50, 0xAC}, to_all[5] = {0x00, 0x21, 0x3B, 0x7C, 0xD8};
+    static const uint8_t unlisted[5] = {0x01, 0x20, 0x44, 0x02, 0x67};
     uint8_t *map = lend_copy(&map_lent, start_map, MAP), *texts = lend_copy(&texts_lent, start_texts, STORE);
     uint8_t *out = lend(&out_lent, ROOM);
-    SAME(thermostat_step(1, map, MAP, texts, STORE, taken, 5, out, ROOM), 3 << 8);
-    CHECK(map[59] == 80 && out[0] == 0x81 && out[1] == 0x00 && out[2] == 0x81);
     SAME(thermostat_step(1, map, MAP, texts, STORE, not_taken, 5, out, ROOM), 3 << 8);
-    CHECK(map[59] == 80 && out[0] == 0x81 && out[1] == 0x01 && out[2] == 0x82);
+    CHECK(kept_from(&map_lent, 0) && out[0] == 0x81 && out[1] == 0x01 && out[2] == 0x82);
+    SAME(thermostat_step(1, map, MAP, texts, STORE, taken, 5, out, ROOM), 3 << 8);
+    CHECK(map[59] == 124 && out[0] == 0x81 && out[1] == 0x00 && out[2] == 0x81);
     map = lend_copy(&map_lent, start_map, MAP);
     out = lend(&out_lent, ROOM);
+    SAME(thermostat_step(1, map, MAP, texts, STORE, to_all_not_taken, 5, out, ROOM), 0);
+    CHECK(kept_from(&map_lent, 0) && kept_from(&out_lent, 0));
     SAME(thermostat_step(1, map, MAP, texts, STORE, to_all, 5, out, ROOM), 0);
-    CHECK(map[59] == 80 && kept_from(&out_lent, 0));
+    CHECK(map[59] == 124 && kept_from(&out_lent, 0));
     SAME(thermostat_step(1, map, MAP, texts, STORE, unlisted, 5, out, ROOM), 3 << 8);
     CHECK(out[0] == 0x81 && out[1] == 0x01 && out[2] == 0x82);
     /* own address 122 by 7A and by FA: the reply starts with FA */
@@ -697,6 +717,7 @@ int main(void)
     examples();
     text_examples();
     single_sets();
+    setpoint_sets();
     sets_of_several();
     polls_and_groups();
     addresses();

@@ -33,4 +33,4 @@ marked-examples map texts room whole store taken fits =
     let roomy : ltb room 65 ≡ false = le-ltb room 65 fits in
     let complete : eqb (length map) 256 ≡ true = eq-eqb (length map) 256 whole in
     let stored-whole : eqb (length texts) 610 ≡ true = eq-eqb (length texts) 610 store in
-    (refl, (refl, (refl, (refl, (refl, (refl, (refl, (refl, (simp (roomy, complete, stored-whole, taken), (put-same map 59 80 present, (simp (roomy, complete, stored-whole, taken), (refl, (refl, (refl, (refl, tt)))))))))))))))
+    (refl, (refl, (refl, (refl, (refl, (refl, (refl, (refl, (simp (roomy, complete, stored-whole, taken), (simp (roomy, complete, stored-whole, taken), (put-same map 59 124 present, (simp (roomy, complete, stored-whole, taken), (refl, (refl, (refl, (refl, tt))))))))))))))))

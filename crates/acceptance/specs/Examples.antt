@@ -1,4 +1,5 @@
--- Document 01, "Examples; marked ones are proved": the marked cases, as one statement about the definitions.
+-- Document 01, "Examples; marked ones are proved": the marked cases, the setpoint ones as document 02, K2, has them, with the broadcast that
+-- it names, as one statement about the definitions.
 use Prim.Native.Nat.{ℕ, _≤_}
 use mathlib.Core.Path.{_≡_}
 use mathlib.Core.Bool.{true}
@@ -40,9 +41,10 @@ marked map texts room =
     ∷ (readFrame (0x5A ∷ 0x01 ∷ 0x05 ∷ 0xC1 ∷ 0x92 ∷ []) ≡ refused 5)
     -- Omnistat2
     ∷ (Omnistat.read Thermostat (0x01 ∷ 0x02 ∷ 0x03 ∷ []) ≡ accepted (Omnistat.addressedCounted Thermostat 1 (pollGroup First)))
-    ∷ (step 1 map texts (0x01 ∷ 0x21 ∷ 0x3B ∷ 0x50 ∷ 0xAD ∷ []) room ≡ accepted (record { sent = 0x81 ∷ 0x00 ∷ 0x81 ∷ []; map = put map 59 80; texts = texts }))
-    ∷ (content (put map 59 80) 59 ≡ 80)
-    ∷ (step 1 map texts (0x01 ∷ 0x21 ∷ 0x3B ∷ 0x7C ∷ 0xD9 ∷ []) room ≡ accepted (record { sent = 0x81 ∷ 0x01 ∷ 0x82 ∷ []; map = map; texts = texts }))
+    ∷ (step 1 map texts (0x01 ∷ 0x21 ∷ 0x3B ∷ 0x50 ∷ 0xAD ∷ []) room ≡ accepted (record { sent = 0x81 ∷ 0x01 ∷ 0x82 ∷ []; map = map; texts = texts }))
+    ∷ (step 1 map texts (0x01 ∷ 0x21 ∷ 0x3B ∷ 0x7C ∷ 0xD9 ∷ []) room ≡ accepted (record { sent = 0x81 ∷ 0x00 ∷ 0x81 ∷ []; map = put map 59 124; texts = texts }))
+    ∷ (content (put map 59 124) 59 ≡ 124)
+    ∷ (step 1 map texts (0x00 ∷ 0x21 ∷ 0x3B ∷ 0x50 ∷ 0xAC ∷ []) room ≡ accepted (record { sent = []; map = map; texts = texts }))
     -- cost
     ∷ (cost 34567 ≡ accepted 4567000)
     ∷ (cost 65026 ≡ refused 10)

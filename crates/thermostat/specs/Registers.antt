@@ -1,16 +1,20 @@
--- Document 01, "Registers and the model thermostat": which registers are listed, which may be written, and the bytes that each takes.
+-- Document 01, "Registers and the model thermostat", and document 02, K2: which registers are listed, which may be written, and the bytes
+-- that each takes.
 use Prim.Native.Nat.{ℕ}
 use mathlib.Core.Bool.{Bool, false, not, cond, _&&_, _||_}
 use mathlib.Core.List.{List, [], _∷_}
 use Rattle.omnistat.specs.Register.{within}
+use Rattle.thermostat.specs.Temperature.{fahrenheitWithin}
 
--- the numbers between two edges, both included
-pub record Range : Type 0 where
-  pub low : ℕ
-  pub high : ℕ
+-- the numbers between two edges, both included; or the bytes whose Fahrenheit lies between two whole degrees (document 02, K2)
+pub data Range : Type 0 where
+  range : ℕ → ℕ → Range
+  fahrenheit : ℕ → ℕ → Range
 
-abbrev pub range : ℕ → ℕ → Range
-range lo hi = record { low = lo; high = hi }
+-- a number is in a range
+abbrev pub isIn : Range → ℕ → Bool
+isIn (range lo hi) n = within lo hi n
+isIn (fahrenheit lo hi) n = fahrenheitWithin lo hi n
 
 abbrev pub only : ℕ → Range
 only n = range n n
@@ -18,7 +22,7 @@ only n = range n n
 -- a list of the paper: numbers and ranges
 abbrev pub inAny : List Range → ℕ → Bool
 inAny [] n = false
-inAny (r ∷ rs) n = within (r .low) (r .high) n || inAny rs n
+inAny (r ∷ rs) n = isIn r n || inAny rs n
 
 -- Listed
 unfoldable pub listed : ℕ → Bool
@@ -32,7 +36,7 @@ readOnly r = inAny (only 64 ∷ only 71 ∷ only 72 ∷ only 73 ∷ only 162 ∷
 unfoldable pub allowed : ℕ → List Range
 allowed r =
     cond (inAny (only 58 ∷ []) r) (range 0 6 ∷ [])
-    (cond (inAny (only 59 ∷ only 60 ∷ only 163 ∷ only 164 ∷ []) r) (range 51 91 ∷ [])
+    (cond (inAny (only 59 ∷ only 60 ∷ only 163 ∷ only 164 ∷ []) r) (fahrenheit 51 91 ∷ [])
     (cond (inAny (only 61 ∷ []) r) (range 0 4 ∷ [])
     (cond (inAny (only 62 ∷ only 63 ∷ only 131 ∷ only 136 ∷ only 139 ∷ []) r) (range 0 2 ∷ [])
     (cond (inAny (only 132 ∷ []) r) (only 0 ∷ only 1 ∷ only 42 ∷ only 54 ∷ only 126 ∷ [])

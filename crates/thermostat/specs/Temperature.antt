@@ -1,9 +1,10 @@
--- Document 01, "Registers and the model thermostat": temperatures and setpoint pairs.
+-- Document 01, "Registers and the model thermostat", and document 02, K2: temperatures and setpoint pairs.
 use Prim.Native.Nat.{ℕ, zero, suc, _+_, _-_, _*_}
-use mathlib.Core.Bool.{cond}
+use mathlib.Core.Bool.{Bool, cond, _&&_}
 use mathlib.Core.List.{List, [], _∷_}
 use lib.Dec.{ltb}
 use lib.IntN.{ℤ, pos, _-ℤ_}
+use lib.Signed.{leZ}
 use lib.Ieee.{Float, binary32, round, eq}
 use Rattle.answer.specs.Answer.{Outcome, refused, accepted, onAccepted, andThen, numberOf}
 use Rattle.answer.specs.Packed.{Field, byte}
@@ -20,6 +21,10 @@ celsius n = round binary32 (ltb n 80) ((n - 80) + (80 - n)) 2
 -- 9n - 400 tenths of a degree Fahrenheit
 abbrev pub fahrenheitTenths : ℕ → ℤ
 fahrenheitTenths n = pos (9 * n) -ℤ pos 400
+
+-- document 02, K2: the Fahrenheit of a byte lies between two whole degrees, both included
+abbrev pub fahrenheitWithin : ℕ → ℕ → ℕ → Bool
+fahrenheitWithin lo hi n = leZ (pos (10 * lo)) (fahrenheitTenths n) && leZ (fahrenheitTenths n) (pos (10 * hi))
 
 -- the first of k bytes from n on whose temperature equals x, as floats are compared: minus zero equals zero, and a NaN equals nothing
 unfoldable pub firstEqual : ℕ → ℕ → Float → Outcome ℕ

@@ -1,4 +1,4 @@
-// Document 01, "Registers and the model thermostat": what is stated of each register number, 0 to 255.
+// Document 01, "Registers and the model thermostat", and document 02, K2: what is stated of each register number, 0 to 255.
 // 1 where the register is listed.
 pub(crate) const LISTED: [u8; 256] = [
     0,
@@ -580,8 +580,8 @@ pub(crate) const LOW: [u8; 256] = [
     0,
     0,
     0,
-    51,
-    51,
+    102, // 59, cool setpoint
+    102, // 60, heat setpoint
     0,
     0,
     0,
@@ -684,8 +684,8 @@ pub(crate) const LOW: [u8; 256] = [
     0,
     0,
     0,
-    51,
-    51,
+    102, // 163, cool setpoint for vacation mode
+    102, // 164, heat setpoint for vacation mode
     0,
     0,
     0,
@@ -840,8 +840,8 @@ pub(crate) const HIGH: [u8; 256] = [
     255,
     255,
     6,
-    91,
-    91,
+    145, // 59, cool setpoint
+    145, // 60, heat setpoint
     4,
     2,
     2,
@@ -944,8 +944,8 @@ pub(crate) const HIGH: [u8; 256] = [
     255,
     3,
     255,
-    91,
-    91,
+    145, // 163, cool setpoint for vacation mode
+    145, // 164, heat setpoint for vacation mode
     255,
     255,
     255,

@@ -142,11 +142,12 @@ fn register(random: &mut Random) -> u8 {
     random.byte_from(low, high)
 }
 
-/// A value that many of the ranges hold.
+/// A value: any, one for a setpoint or beside its range, one in the larger ranges, or one that most ranges hold.
 fn value(random: &mut Random) -> u8 {
-    match random.below(4) {
+    match random.below(5) {
         0 => random.byte(),
-        1 => random.byte_from(51, 91),
+        1 => random.byte_from(101, 146),
+        2 => random.byte_from(0, 100),
         _ => random.byte_from(0, 3),
     }
 }

@@ -434,13 +434,13 @@ fn listed(register: u8) -> bool {
     matches!(register, 15 | 18..=68 | 70..=122 | 131..=145 | 158..=171)
 }
 
-// Registers: whether a byte may be written.
+// Registers: whether a byte may be written; setpoints by K2.
 fn writable(register: u8, value: u8) -> bool {
     listed(register)
         && match register {
             64 | 71 | 72 | 73 | 162 | 170 | 171 => false,
             58 => value <= 6,
-            59 | 60 | 163 | 164 => (51..=91).contains(&value),
+            59 | 60 | 163 | 164 => (510..=910).contains(&fahrenheit_tenths(value)),
             61 => value <= 4,
             62 | 63 | 131 | 136 | 139 => value <= 2,
             132 => [0, 1, 42, 54, 126].contains(&value),

@@ -56,10 +56,11 @@ fn examples(compare: &mut Compare) {
     }
     let message = paper::message_read(&[0x5A, 0x01, 0x85, 0xC0, 0x33]);
     compare.fact("type 85 as a message", message == Err(6));
-    let steps: [(&[u8], &[u8], u8); 4] = [
-        (&[0x01, 0x21, 0x3B, 0x50, 0xAD], &[0x81, 0x00, 0x81], 80),
-        (&[0x01, 0x21, 0x3B, 0x7C, 0xD9], &[0x81, 0x01, 0x82], 7),
-        (&[0x00, 0x21, 0x3B, 0x50, 0xAC], &[], 80),
+    let steps: [(&[u8], &[u8], u8); 5] = [
+        (&[0x01, 0x21, 0x3B, 0x50, 0xAD], &[0x81, 0x01, 0x82], 7),
+        (&[0x01, 0x21, 0x3B, 0x7C, 0xD9], &[0x81, 0x00, 0x81], 124),
+        (&[0x00, 0x21, 0x3B, 0x50, 0xAC], &[], 7),
+        (&[0x00, 0x21, 0x3B, 0x7C, 0xD8], &[], 124),
         (&[0x01, 0x20, 0x44, 0x02, 0x67], &[0x81, 0x01, 0x82], 7),
     ];
     for (bytes, reply, setting) in steps {
@@ -437,7 +438,7 @@ fn addresses(compare: &mut Compare, random: &mut Random) {
             let room = random.pick(&[64, 65, 65, 65, 66]);
             let bytes = paper::omnistat(first, group, &[]);
             compare.step(own, &mut state, &bytes, room);
-            let bytes = paper::omnistat(first, 1, &[59, random.byte_from(51, 91)]);
+            let bytes = paper::omnistat(first, 1, &[59, random.byte_from(101, 146)]);
             compare.step(own, &mut state, &bytes, 65);
             let register = random.byte_from(172, 181);
             let bytes = paper::omnistat_text(first, 1, own % 16, register, b"power low");
@@ -446,7 +447,7 @@ fn addresses(compare: &mut Compare, random: &mut Random) {
             compare.step(own, &mut state, &bytes, 65);
         }
     }
-    let bytes = paper::omnistat(1, 1, &[59, 60]);
+    let bytes = paper::omnistat(1, 1, &[59, 124]);
     for size in 0..=300 {
         let mut state = inputs::state(random);
         state.map.resize(size, 0);

@@ -8,9 +8,10 @@ use lib.Dec.{T, eqb, leb}
 use lib.ListN.{length, getD}
 use borrow.Author.Tests.{eqb-true, eqb-false, leb-true, leb-false, le-leb, lt-leb, ne-eqb}
 use Rattle.omnistat.specs.Register.{within}
-use Rattle.thermostat.specs.Registers.{Range, inAny, listed, readOnly, allowed, settable}
+use Rattle.thermostat.specs.Registers.{Range, range, fahrenheit, isIn, inAny, listed, readOnly, allowed, settable}
 use Rattle.answer.specs.Bit.{bit}
-use Rattle.thermostat.specs.Parts.{takes, lowest, highest, writableFlag, lowOf, highOf, States}
+use Rattle.thermostat.specs.Parts.{takes, low, high, lowest, highest, writableFlag, lowOf, highOf, States}
+use Rattle.thermostat.proofs.Laws.Fahrenheit.{fahrenheit-bytes}
 use Rattle.answer.proofs.Laws.Table.{every, at, below, holds, both-left, both-right}
 
 -- the computed test: each entry is what is stated of its place
@@ -46,6 +47,11 @@ only-one n v = go (leb n v) (leb v n) (eqb v n) refl refl refl
     go false q true k l e = absurd (omega (arith, eqb-true v n e, leb-false n v k))
     go false q false k l e = refl
 
+-- a range has every byte from its least to its greatest
+by-edges : (x : Range) (v : ℕ) → isIn x v ≡ within (low x) (high x) v
+by-edges (range lo hi) v = refl
+by-edges (fahrenheit lo hi) v = fahrenheit-bytes lo hi v
+
 -- every register but two takes one range
 abbrev single : List Range → Bool
 single [] = false
@@ -54,7 +60,7 @@ single (x ∷ y ∷ rs) = false
 
 one-range : (rs : List Range) → single rs ≡ true → (v : ℕ) → inAny rs v ≡ within (lowest rs) (highest rs) v
 one-range [] t v = let z : _≡_ {A = ℕ} 0 1 = cc in absurd (omega arith)
-one-range (x ∷ []) t v = or-false (within (x .low) (x .high) v)
+one-range (x ∷ []) t v = or-false (isIn x v) ∙ by-edges x v
 one-range (x ∷ y ∷ rs) t v = let z : _≡_ {A = ℕ} 0 1 = cc in absurd (omega arith)
 
 module _ (r v : ℕ) (h : r < 256) (a : r ≡ 70 → ⊥) (b : r ≡ 132 → ⊥) where
