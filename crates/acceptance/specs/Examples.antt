@@ -28,7 +28,8 @@ Holds (c ∷ cs) = c × Holds cs
 abbrev pub a1 : List ℕ
 a1 = 1 ∷ 1 ∷ 1 ∷ 0 ∷ 0 ∷ 1 ∷ 1 ∷ 0 ∷ 1 ∷ 0 ∷ 0 ∷ 1 ∷ 0 ∷ 1 ∷ 1 ∷ 0 ∷ 1 ∷ 0 ∷ 0 ∷ 1 ∷ 0 ∷ 1 ∷ []
 
--- the marked cases in the paper's order. Those of thermostat 1 go by its map, its text store and the length of the output
+-- the marked cases in the paper's order, and the broadcast of document 02, K2, in its place among them. Those of thermostat 1 go by its map,
+-- its text store and the length of the output
 abbrev pub marked : List ℕ → List ℕ → ℕ → List (Type 0)
 marked map texts room =
     -- Omni-Link
