@@ -33,13 +33,17 @@ $(LIB): crates.txt $(shell find crates -name '*.rt' -o -name '*.antt')
 
 ctest: $(TESTS)
 
-target/tests/%: tests/c/%.c tests/c/check.h tests/c/frame.h include/gateway.h $(LIB)
+target/tests/%: tests/c/%.c $(wildcard tests/c/*.h) include/gateway.h $(LIB)
 	@mkdir -p $(@D)
 	$(CC) $(CFLAGS) -o $@ $< $(LIB)
 
 target/tests/boost: tests/boost.cc include/gateway.h $(LIB)
 	@mkdir -p $(@D)
 	$(CXX) -std=c++17 -O2 -Wall -Wextra -Werror -Iinclude -o $@ $< $(LIB)
+
+target/tests/rollover: tests/rollover.c examples/gateway.c include/gateway.h $(LIB)
+	@mkdir -p $(@D)
+	$(CC) $(CFLAGS) -o $@ $< $(LIB)
 
 OUTSIDE = CARGO_TARGET_DIR=target/rust cargo run -q --release --offline --manifest-path tests/rust/Cargo.toml --
 

@@ -10,7 +10,7 @@ enum { SIZE = 1 << 18, PAINT = 0xA7 };
 
 static uint8_t *stack;
 static uint8_t input[4096], map[256], texts[THERMOSTAT_TEXTS], out[1 << 16];
-static uint8_t frame[69], places[62];
+static uint8_t frame[69], places[62], fresh[CAPTURE_STATE], held[CAPTURE_STATE];
 static size_t frame_len;
 static volatile uint64_t sink;
 
@@ -33,6 +33,8 @@ static void setpoints(void) { sink = setpoints_to_bytes(setpoints_from_bytes(120
 static void x10(void) { sink = x10_read(places, sizeof places); }
 static void x10_write(void) { sink = x10_write_extended(0, 1, 0x55, 0xAA, places, sizeof places); }
 static void listing(void) { sink = capture_listing(input, sizeof input, out, sizeof out); }
+static void piece(void) { sink = capture_piece(fresh, sizeof fresh, input, sizeof input, out, sizeof out); }
+static void finish(void) { sink = capture_finish(held, sizeof held, out, sizeof out); }
 
 struct run {
     void (*call)(void);
@@ -82,6 +84,7 @@ int main(void)
         {"thermostat_step, a text set", text_set}, {"thermostat_step, a text poll", text_poll},
         {"setpoints_to_bytes", setpoints}, {"x10_write_extended", x10_write},
         {"x10_read", x10}, {"capture_listing, 4,096 bytes of frames", listing},
+        {"capture_piece, 4,096 bytes of frames", piece}, {"capture_finish, 66 unread bytes of frames", finish},
     };
     if (posix_memalign((void **)&stack, 4096, SIZE)) {
         perror("stack");
@@ -92,6 +95,8 @@ int main(void)
     for (size_t i = 0; i + 5 <= sizeof input; i += 5) {
         omnilink_frame_write(0x05, NULL, 0, input + i, 5);
     }
+    capture_piece(held, sizeof held, (const uint8_t[]){0x5A, 0x41}, 2, out, 0);
+    capture_piece(held, sizeof held, input, 66, out, 0);
     size_t most = 0;
     const char *deepest = "";
     for (size_t i = 0; i < sizeof calls / sizeof *calls; i++) {

@@ -1,5 +1,6 @@
 /* A small site gateway. On one serial line it polls an Omnistat2 thermostat and tallies its cost readings, on another it asks
-   an Omni-Link controller for events and zones; it prints what it saw, and what was refused and why.
+   an Omni-Link controller for events and zones, and lists the bytes of that line as they come; it prints what it saw, and what
+   was refused and why.
 
        gateway THERMOSTAT-TTY OMNILINK-TTY [CODE]   two serial lines; CODE is the security code to log in with
        gateway                                      the demonstration
@@ -24,6 +25,7 @@
 enum { ADDRESS = 1, ROUNDS = 5, TRIES = 3, FIRST_ZONE = 1, LAST_ZONE = 3 };
 enum { OMNISTAT_MAX = 65, FRAME_MAX = 69 };          /* the longest message, a text, and the longest frame, in bytes */
 enum { BABBLE = 2048 };                              /* a line that never falls quiet is left after so many bytes */
+enum { PIECE = 16, CAPTURE_MAX = 4096 };             /* bytes to take from a port at a time, and to list as one capture */
 enum { POLL = 0, SET = 1 };                          /* Omnistat2 types at the thermostat */
 enum { ACKNOWLEDGE = 0, NEGATIVE = 1, DATA = 2 };    /* and at the host */
 enum { COOL = 59, HEAT = 60, TEMPERATURE = 64, COST = 170, ENERGY_TEXT = 175 };
@@ -246,13 +248,43 @@ static void add_cost(const struct line *line, struct tally *tally)
 
 /* ---- the Omni-Link controller */
 
-/* Bytes that are not yet known as frame or noise; bytes[0] is byte number offset of the line. */
+/* The Omni-Link line, listed as one capture after the other, and its bytes that are not yet read as messages. The offsets of the
+   listing count from the start of its capture, those of messages over the whole line: in the first capture both are the same. */
 struct stream {
-    uint8_t bytes[4 * FRAME_MAX];
+    uint8_t listing[CAPTURE_STATE];
+    size_t listed;    /* how many bytes the capture has */
+    uint8_t bytes[BABBLE + FRAME_MAX + PIECE];
     size_t len;
-    size_t noise;    /* length of the run of noise before bytes[0] */
-    size_t offset;
+    size_t offset;    /* of bytes[0] on the line */
 };
+
+static void print_lines(const struct stream *s, const uint8_t *lines, uint64_t written)
+{
+    if (accepted("listing at", s->listed, written)) {
+        for (size_t i = 0; i < gateway_value(written); i++) {
+            printf("%s%c", i == 0 || lines[i - 1] == '\n' ? "  " : "", lines[i]);
+        }
+    }
+}
+
+/* Lists the bytes that have just come. They settle no line, or some; a frame may have begun many pieces ago. */
+static void list_piece(struct stream *s, const uint8_t *bytes, size_t len)
+{
+    uint8_t lines[8 * PIECE + 544];
+    uint64_t written = capture_piece(s->listing, sizeof s->listing, bytes, len, lines, sizeof lines);
+    print_lines(s, lines, written);
+    s->listed += len;
+}
+
+/* Prints the last lines of the capture; the next byte that comes is the first of another. Messages know nothing of captures: what
+   is not yet read stays. */
+static void end_listing(struct stream *s)
+{
+    uint8_t lines[569];
+    uint64_t written = capture_finish(s->listing, sizeof s->listing, lines, sizeof lines);
+    print_lines(s, lines, written);
+    s->listed = 0;
+}
 
 static void print_zone(unsigned number, uint64_t zone)
 {
@@ -272,13 +304,12 @@ static void print_event(unsigned event)
     }
 }
 
-static void print_frame(const struct stream *s, size_t len)
+static void print_message(const struct stream *s, size_t len)
 {
     uint64_t message = omnilink_message_read(s->bytes, len);
-    printf("  frame at %zu, %zu bytes, type %02X\n", s->offset, len, (unsigned)s->bytes[2]);
     if (accepted("message at", s->offset, message)) {
         uint8_t type = gateway_byte(message, 0);
-        printf("    %s\n", MESSAGES[type]);
+        printf("  message at %zu: %s\n", s->offset, MESSAGES[type]);
         for (unsigned i = 0; i < gateway_byte(message, 1); i++) {
             if (type == ZONES) {
                 print_zone(FIRST_ZONE + i, omnilink_zone(s->bytes, len, i));
@@ -296,16 +327,9 @@ static void drop(struct stream *s, size_t count)
     memmove(s->bytes, s->bytes + count, s->len);
 }
 
-static void end_noise(struct stream *s)
-{
-    if (s->noise > 0) {
-        printf("  noise at %zu, %zu bytes\n", s->offset - s->noise, s->noise);
-    }
-    s->noise = 0;
-}
-
 /* Takes the frame or the byte of noise at the front of the stream; false if more bytes must come first. On a quiet line
-   none will come: a start without its frame is noise then, and a whole frame can stand behind it. */
+   none will come: a start without its frame is noise then, and a whole frame can stand behind it. The listing knows of bytes
+   alone, and waits for those that the start promised. */
 static bool take(struct stream *s, bool quiet, unsigned *frames)
 {
     /* The reader wants the bytes of one frame: its length byte says how many. */
@@ -316,29 +340,34 @@ static bool take(struct stream *s, bool quiet, unsigned *frames)
     }
     /* Each byte of noise is refused for its start; only what began as a frame is worth a line. */
     if (gateway_number(answer) == GATEWAY_START || !accepted("frame at", s->offset, answer)) {
-        s->noise++;
         drop(s, 1);
     } else {
-        end_noise(s);
-        print_frame(s, len);
+        print_message(s, len);
         drop(s, len);
         ++*frames;
     }
     return true;
 }
 
-/* Reads until the line is quiet; the count of frames. There is room for more: fewer than FRAME_MAX bytes wait for the rest. */
+/* Lists what comes until the line is quiet, then reads its messages; the count of frames. There is room for more: fewer than
+   FRAME_MAX bytes are left from a line that never fell quiet.
+   A capture has at most CAPTURE_MAX bytes. Where the next reply might take it above them, it ends here, between two replies, and
+   another starts. So on a line that falls quiet between replies the listing cuts no frame in two. On one that never does it may:
+   the frame's bytes are then noise at the end of one capture and at the start of the next, but its message is read. */
 static unsigned read_frames(const struct line *line, struct stream *s)
 {
     unsigned frames = 0;
     size_t n = 1;
-    for (size_t total = 0; n > 0 && total < BABBLE; total += n) {
-        n = receive(line->fd, total == 0 ? line->reply_ms : line->gap_ms, s->bytes + s->len, sizeof s->bytes - s->len);
-        s->len += n;
-        while (s->len > 0 && take(s, n == 0, &frames)) {
-        }
+    if (s->listed + BABBLE + PIECE > CAPTURE_MAX) {
+        end_listing(s);
     }
-    end_noise(s);
+    for (size_t total = 0; n > 0 && total < BABBLE; total += n) {
+        n = receive(line->fd, total == 0 ? line->reply_ms : line->gap_ms, s->bytes + s->len, PIECE);
+        list_piece(s, s->bytes + s->len, n);
+        s->len += n;
+    }
+    while (s->len > 0 && take(s, n == 0, &frames)) {
+    }
     return frames;
 }
 
@@ -406,7 +435,7 @@ static void play_controller(int fd)
     } answers[] = {
         SENDS("\x5A\x01\x05\xC1\x93"),                                           /* acknowledge */
         SENDS("\x00\x13\xFF" "\x5A\x05\x23\x06\x02\x0A\x05\xA2\x79"),            /* noise, events */
-        SENDS("\x07\x5A\x41" "\x5A\x07\x16\x00\x7C\x11\x61\x20\xFF\x6A\x8F"),    /* the start of 69 bytes, but zones follow */
+        SENDS("\x07\x5A\x10" "\x5A\x07\x16\x00\x7C\x11\x61\x20\xFF\x6A\x8F"),    /* the start of 20 bytes, but zones follow */
         SENDS("\x5A\x05\x23\x04\x42\x08\x05\xA2\xA1"),                           /* events with a bit turned over */
         SENDS("\x5A\x05\x23\x04\x02\x08\x05\xA2\xA1"),                           /* the same, whole */
         SENDS("\x5A\x00" "\x5A\x07\x16\x00\x7C\x11\x61\x20\xFF\x6A\x8F" "\x5A\x01\x85\xC0\x33"),    /* zones, unknown type */
@@ -475,6 +504,7 @@ static void run(const struct line *thermostat, const struct line *controller, co
             ask_controller(controller, &stream, ZONE_REQUEST, zones, sizeof zones);
         }
     }
+    end_listing(&stream);
     printf("total ");
     print_units(tally.total, "\n");
 }

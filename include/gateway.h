@@ -7,8 +7,9 @@
    and answer their value itself.
 
    A buffer is passed as a pointer and a length; a null pointer with length 0 is an empty buffer. What a call writes to (out, a
-   register map, a text store, a tally) overlaps nothing else that the same call is lent: neither what it reads nor what else
-   it writes to. A writer changes the bytes that it counts as written; the bytes of out behind them stay as they were. */
+   register map, a text store, a tally, a capture's state) overlaps nothing else that the same call is lent: neither what it
+   reads nor what else it writes to. A writer changes the bytes that it counts as written; the bytes of out behind them stay as
+   they were. */
 #ifndef GATEWAY_H
 #define GATEWAY_H
 
@@ -24,15 +25,16 @@ enum gateway_answer {
     GATEWAY_ACCEPTED = 0,
     GATEWAY_SHORT = 1,        /* fewer bytes or places than the frame needs; a text that may still get its 03 */
     GATEWAY_START = 2,        /* wrong start byte, start code or direction */
-    GATEWAY_LENGTH = 3,       /* length byte 00 or above 41 hex, over 64 data bytes to write, or a capture above 4,096 bytes */
+    GATEWAY_LENGTH = 3,       /* length byte 00 or above 41 hex, over 64 data bytes to write, or a capture above 4,096 bytes,
+                                 also in pieces */
     GATEWAY_LONG = 4,         /* more bytes or places than the frame */
     GATEWAY_CHECKSUM = 5,     /* CRC, sum or complement is wrong */
     GATEWAY_UNKNOWN = 6,      /* unknown type or key */
     GATEWAY_TYPE_LENGTH = 7,  /* length wrong for the type */
     GATEWAY_FIELD = 8,        /* a field outside its list; a text of more than 60 characters or with a wrong one, also in a
-                                 text store */
-    GATEWAY_ROOM = 9,         /* lent output too short (for a step: under 65 bytes), a register map not of 256 bytes, or a text
-                                 store not of 610 */
+                                 text store; a capture's state that no pieces lead to, or not of 74 bytes */
+    GATEWAY_ROOM = 9,         /* lent output too short (for a step: under 65 bytes; for a piece: for the lines of this call), a
+                                 register map not of 256 bytes, or a text store not of 610 */
     GATEWAY_COST_WORD = 10,   /* cost word above 65025 */
     GATEWAY_TOTAL = 11        /* the total would pass 2^64 - 1 */
 };
@@ -249,6 +251,30 @@ uint64_t x10_write_extended(uint8_t house, uint8_t unit, uint8_t data, uint8_t c
    Accepted: bytes written (32). Refused: 3 more than 4,096 bytes; 9 too little room.
    The capture 00 5A 01 05 C1 93 5A gives the lines noise 0 1, frame 1 5 5, noise 6 1 and end 7. */
 uint64_t capture_listing(const uint8_t *bytes, size_t len, uint8_t *out, size_t room);
+
+/* The bytes of the state of a capture that comes in pieces: how many bytes have come (2, high byte first), how long the run of
+   noise without a line is (2, high byte first), the count of unread bytes (1), which are the start of what may be a frame, and
+   then these bytes (69, of which at most 68 are used); the bytes behind them are zero. A state starts as zero bytes, and each
+   capture has its own. */
+enum { CAPTURE_STATE = 74 };
+
+/* Takes the next len bytes of a capture, which may be none, and writes the lines that they settle. state has CAPTURE_STATE
+   bytes. The lines of all pieces and of capture_finish, joined, are those of capture_listing for all bytes, however they were
+   cut, provided no call was refused. Places are judged from the left, each once another byte than 5A, a length byte outside 01
+   to 41 hex, or all bytes of its frame have come; a frame's line comes from the call that judges it, after the line of the noise
+   before it. A room of 8 * len + 544 bytes is always enough; 0 is, where the call writes no line.
+   Accepted: bytes written (32). Refused, with state and out unchanged, in this order: 8 a state that no pieces lead to, or
+   state_len not CAPTURE_STATE; 3 a piece that takes the capture above 4,096 bytes; 9 too little room for the lines of this call.
+   From a fresh state, the piece 00 5A 01 writes nothing, and then 05 C1 93 5A gives the lines noise 0 1 and frame 1 5 5. */
+uint64_t capture_piece(uint8_t *state, size_t state_len, const uint8_t *bytes, size_t len, uint8_t *out, size_t room);
+
+/* Ends a capture that came in pieces: judges the unread bytes as cut off, in which frames may be found, writes the last lines,
+   noise at the end and the end line, and leaves a fresh state. A room of 569 bytes is always enough.
+   Accepted: bytes written (32). Refused, with state and out unchanged: 8 a state that no pieces lead to, or state_len not
+   CAPTURE_STATE; 9 too little room.
+   After the two pieces above it gives the lines noise 6 1 and end 7. The piece 5A 41 5A 01 05 C1 93 alone writes nothing; this
+   call then gives noise 0 2, frame 2 5 5 and end 7. */
+uint64_t capture_finish(uint8_t *state, size_t state_len, uint8_t *out, size_t room);
 
 #ifdef __cplusplus
 }

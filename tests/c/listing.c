@@ -4,7 +4,7 @@
 #include "check.h"
 #include "frame.h"
 #include "gateway.h"
-#include <pthread.h>
+#include "stack.h"
 
 enum { CAPTURE = 4096, ROOM = 8 * CAPTURE + 25 };
 
@@ -157,41 +157,11 @@ static void longest(void)
     listed(CAPTURE, ROOM);
 }
 
-/* The stack: a thread's own, filled with a pattern, and how much of it a call changed. */
-enum { STACK = 1 << 20 };
-static _Alignas(4096) uint8_t stack[STACK];
-
 static void *call(void *unused)
 {
     (void)unused;
     capture_listing(capture, CAPTURE, out, ROOM);
     return NULL;
-}
-
-static void *nothing(void *unused) { return unused; }
-
-static size_t used(void *(*work)(void *))
-{
-    pthread_attr_t attr;
-    pthread_t thread;
-    memset(stack, 0xA5, sizeof stack);
-    pthread_attr_init(&attr);
-    CHECK(pthread_attr_setstack(&attr, stack, sizeof stack) == 0);
-    CHECK(pthread_create(&thread, &attr, work, NULL) == 0);
-    CHECK(pthread_join(thread, NULL) == 0);
-    pthread_attr_destroy(&attr);
-    size_t kept = 0;
-    while (kept < sizeof stack && stack[kept] == 0xA5) {
-        kept++;
-    }
-    return sizeof stack - kept;
-}
-
-static void stack_stays_small(const char *what)
-{
-    size_t bytes = used(call) - used(nothing);
-    printf("stack of 4,096 bytes of %s: %zu bytes\n", what, bytes);
-    CHECK(bytes <= 65536);
 }
 
 int main(void)
@@ -201,15 +171,15 @@ int main(void)
     random_captures(4000, 300);
     random_captures(300, CAPTURE);
     longest();
-    stack_stays_small("five-byte frames");
+    stack_stays_small(call, "4,096 bytes of five-byte frames");
     for (size_t i = 0; i + 6 <= CAPTURE; i += 6) {
         capture[i] = 0xFF;
         frame_write(0xFF, NULL, 0, capture + i + 1);
     }
-    stack_stays_small("a noise byte before each five-byte frame");
+    stack_stays_small(call, "4,096 bytes of a noise byte before each five-byte frame");
     for (size_t i = 0; i < CAPTURE; i++) {
         capture[i] = i % 2 ? 0x41 : 0x5A;
     }
-    stack_stays_small("5A 41 repeated");
+    stack_stays_small(call, "4,096 bytes of 5A 41 repeated");
     return check_end();
 }

@@ -12,7 +12,7 @@ ghost use Rattle.link.specs.Frame.{readFrame, readFirst, writeFrame, fra
 
 pub const START: u8 = 0x5A;
 
-const MAX_LENGTH: u8 = 0x41;
+pub const MAX_LENGTH: u8 = 0x41;
 
 const MAX_DATA: usize = 64;
 

@@ -1,9 +1,19 @@
 -- The laws, a file for each subject.
 pub mod Answers
+pub mod Calls
+pub mod Closing
 pub mod Faithful
 pub mod Found
 pub mod Frames
+pub mod FramesText
+pub mod Judging
 pub mod Numbers
 pub mod Output
-pub mod Pieces
+pub mod Places
+pub mod Rooms
+pub mod Settled
+pub mod Settling
 pub mod Sizes
+pub mod State
+pub mod Taken
+pub mod Window

@@ -11,7 +11,7 @@ pub data Line : Type 0 where
   end : ℕ → Line
 
 -- what follows from a refusal, or from a frame
-abbrev pub judged : Outcome Frame → (ℕ → List Line) → (Frame → List Line) → List Line
+abbrev pub judged : {A : Type 0} → Outcome Frame → (ℕ → A) → (Frame → A) → A
 judged (refused n) noisy framed = noisy n
 judged (accepted f) noisy framed = framed f
 

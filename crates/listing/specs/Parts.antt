@@ -5,8 +5,10 @@ use mathlib.Core.List.{List, [], _∷_, _++_}
 use lib.ListN.{length, take, drop}
 use Rattle.answer.specs.Answer.{Outcome, refused, accepted}
 use Rattle.link.specs.Frame.{Frame, readFirst, size}
-use Rattle.listing.specs.Lines.{noise, frame, end, linesFrom}
+use Rattle.listing.specs.Lines.{Line, noise, frame, end, linesFrom, afterNoise}
 use Rattle.listing.specs.Text.{lineText, text}
+use Rattle.listing.specs.State.{asState, stateBytes}
+use Rattle.listing.specs.Pieces.{Progress, Call, judgedFrom, after}
 
 -- what stands at an offset, in one number: 0 for noise; for a frame its offset, byte count and type
 unfoldable pub judgement : ℕ → Outcome Frame → ℕ
@@ -51,13 +53,22 @@ runText offset zero = []
 runText offset (suc n) = lineText (noise offset (suc n))
 
 -- the text of a frame's line, with the noise from an offset up to it
-unfoldable pub pieceText : ℕ → ℕ → List ℕ
-pieceText from e = runText from (offsetIn e - from) ++ lineText (frame (offsetIn e) (countIn e) (kindIn e))
+unfoldable pub pairText : ℕ → ℕ → List ℕ
+pairText from e = runText from (offsetIn e - from) ++ lineText (frame (offsetIn e) (countIn e) (kindIn e))
+
+-- the text of the frames es from an offset on, and of the noise before each
+unfoldable pub framesText : ℕ → List ℕ → List ℕ
+framesText from [] = []
+framesText from (e ∷ es) = pairText from e ++ framesText (behind e) es
+
+-- the offset behind the last of the frames es; where there are none, the one before which they were looked for
+unfoldable pub lastEnd : ℕ → List ℕ → ℕ
+lastEnd from [] = from
+lastEnd from (e ∷ es) = lastEnd (behind e) es
 
 -- the text of the frames es from an offset on, the noise between and behind them, and the end
 unfoldable pub foundText : ℕ → List ℕ → ℕ → List ℕ
-foundText from [] len = runText from (len - from) ++ lineText (end len)
-foundText from (e ∷ es) len = pieceText from e ++ foundText (behind e) es len
+foundText from es len = framesText from es ++ (runText (lastEnd from es) (len - lastEnd from es) ++ lineText (end len))
 
 -- the frames es lie one behind the other, from an offset on, in a capture of so many bytes
 abbrev pub Within : ℕ → List ℕ → ℕ → Type 0
@@ -90,3 +101,32 @@ pub record Put (at : ℕ) (xs before after : List ℕ) (next : ℕ) : Type 0 whe
   pub fits : at + length xs ≤ length before
   pub moved : next ≡ at + length xs
   pub put : after ≡ placed at xs before
+
+-- Document 02, K3: the lines of the frames es from an offset on, and of the noise before each
+unfoldable pub linesOf : ℕ → List ℕ → List Line
+linesOf from [] = []
+linesOf from (e ∷ es) =
+    afterNoise (offsetIn e) (offsetIn e - from) (frame (offsetIn e) (countIn e) (kindIn e) ∷ linesOf (behind e) es)
+
+-- judging from an offset on, where the noise without a line starts at another
+abbrev pub judgedAt : ℕ → ℕ → List ℕ → Progress
+judgedAt from offset s = judgedFrom offset (offset - from) 0 s
+
+-- of the bytes s, whose first has the offset base, those before a place are judged, whatever follows: the frames es among them
+pub record Settles (s : List ℕ) (base from : ℕ) (es : List ℕ) (at : ℕ) : Type 0 where
+  pub within : at ≤ length s
+  pub few : 5 * length es ≤ at
+  pub inside : Within from es (base + at)
+  pub same : (t : List ℕ) → judgedAt from base (s ++ t) ≡ after (linesOf from es) (judgedAt (lastEnd from es) (base + at) (drop at s ++ t))
+
+-- the bytes s are the last ones, and all are judged: the frames es among them
+pub record Ends (s : List ℕ) (base from : ℕ) (es : List ℕ) (at : ℕ) : Type 0 where
+  pub within : at ≤ length s
+  pub few : 5 * length es ≤ at
+  pub inside : Within from es (base + at)
+  pub same : linesFrom base (base - from) 0 s ≡ linesOf from es ++ linesFrom (base + at) (base + at - lastEnd from es) 0 (drop at s)
+
+-- what a call prints and leaves: the frames es, and bytes that stay unread
+abbrev pub closed : ℕ → ℕ → List ℕ → List ℕ → Call
+closed from came es unread =
+    record { text = framesText from es; state = stateBytes (asState came (came - length unread - lastEnd from es) unread) }

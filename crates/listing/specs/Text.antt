@@ -57,6 +57,10 @@ unfoldable pub text : List Line → List ℕ
 text [] = []
 text (l ∷ ls) = lineText l ++ text ls
 
+-- the most bytes of a capture
+abbrev pub longest : ℕ
+longest = 4096
+
 -- the listing of a capture: above 4,096 bytes is 3
 unfoldable pub listing : List ℕ → Outcome (List ℕ)
-listing s = refuseIf (ltb 4096 (length s)) 3 (accepted (text (lines s)))
+listing s = refuseIf (ltb longest (length s)) 3 (accepted (text (lines s)))

@@ -1,9 +1,13 @@
 // The capture listing (document 01, "The capture listing"): where a whole accepted frame starts, it is taken; else that byte is
-// noise. The frames are found once and kept; the text is measured where it might not fit, and then written.
+// noise. The frames are found once and kept; the text is measured where it might not fit, and then written. `pieces` lists a capture as
+// its bytes come.
 mod decimal;
 mod lines;
+pub mod pieces;
 mod place;
 mod scan;
+mod settle;
+mod state;
 mod text;
 
 use answer::Refusal;
@@ -16,7 +20,7 @@ ghost use Rattle.answer.specs.Answer.{onAccepted, inRoom, outAfter, writtenOf};
 ghost use Rattle.listing.specs.Text.{listing};
 ghost use Rattle.listing.specs.Parts.{Within, foundText};
 
-const MAX_CAPTURE: usize = 4096;
+pub(crate) const MAX_CAPTURE: usize = 4096;
 
 // The longest capture that has a short list for its frames: clearing a list for any capture takes longer than listing a short one.
 const SHORT_CAPTURE: usize = 64;
@@ -24,7 +28,7 @@ const SHORT_CAPTURE: usize = 64;
 // Most frames of a short capture, and of any: a frame has at least 5 bytes.
 const SHORT_FRAMES: usize = 12;
 
-const MAX_FRAMES: usize = 819;
+pub(crate) const MAX_FRAMES: usize = 819;
 
 // Room that is always enough: so much for each byte of the capture, and so much besides.
 const ROOM_PER_BYTE: usize = 8;
@@ -35,13 +39,14 @@ const ROOM_BESIDES: usize = 25;
 fn has_room(found: &[u32], len: usize, room: usize) -> bool
     requires { ⌜ len ≤ 4096 ⌝ }
     requires { ⌜ Within 0 (now found) len ⌝ }
+    requires { ⌜ length (now found) ≤ 4096 ⌝ }
     requires { ⌜ length (foundText 0 (now found) len) ≤ 8 * len + 25 ⌝ }
     ensures { λ r. ⌜ r ≡ leb (length (foundText 0 (now (found .entry)) len)) room ⌝ }
 {
     if ROOM_PER_BYTE * len + ROOM_BESIDES <= room {
         return true;
     }
-    let size = lines::text_size(found, len);
+    let size = lines::text_size(found, 0, len);
     size <= room
 }
 
@@ -56,7 +61,7 @@ fn write_with(bytes: &[u8], found: &mut [u32], out: &mut [u8]) -> Written
     if !has_room(&found[..n], bytes.len(), out.len()) {
         return Written::Refused(Refusal::Room);
     }
-    let size = lines::put_listing(&found[..n], bytes.len(), out);
+    let size = lines::put_listing(&found[..n], 0, bytes.len(), out);
     Written::Count(size as u32)
 }
 

@@ -10,66 +10,114 @@ use crate::text::put_frame;
 use crate::text::put_run;
 use crate::text::run_size;
 ghost use mathlib.Core.Path.{_≡_};
-ghost use Prim.Native.Nat.{_+_, _*_, _<_, _≤_};
+ghost use Prim.Native.Nat.{_+_, _<_, _≤_};
+ghost use lib.Dec.{leb};
 ghost use lib.ListN.{length};
-ghost use Rattle.listing.specs.Parts.{Put, Within, offsetIn, pieceText, foundText};
+ghost use Rattle.listing.specs.Parts.{Put, Within, offsetIn, pairText, framesText, lastEnd, foundText};
+
+// Most bytes of a frame's line with the noise line before it: 16 and 21.
+const ROOM_PER_FRAME: usize = 37;
 
 // The size of a frame's line, with the noise from an offset up to it.
-fn piece_size(from: usize, frame: u32) -> usize
+fn pair_size(from: usize, frame: u32) -> usize
     requires { ⌜ from ≤ offsetIn frame ⌝ }
     requires { ⌜ offsetIn frame < 10000 ⌝ }
-    ensures { λ r. ⌜ r ≡ length (pieceText from frame) ⌝ }
+    ensures { λ r. ⌜ r ≡ length (pairText from frame) ⌝ }
 {
     let at = offset_of(frame);
     run_size(from, at - from) + frame_size(at, count_of(frame), kind_of(frame))
 }
 
-fn put_piece(from: usize, frame: u32, out: &mut [u8], place: usize) -> usize
+fn put_pair(from: usize, frame: u32, out: &mut [u8], place: usize) -> usize
     requires { ⌜ from ≤ offsetIn frame ⌝ }
     requires { ⌜ offsetIn frame < 10000 ⌝ }
-    requires { ⌜ place + length (pieceText from frame) ≤ length (now out) ⌝ }
-    ensures { λ r. ⌜ Put place (pieceText from frame) (now (out .entry)) (now (out .exit)) r ⌝ }
+    requires { ⌜ place + length (pairText from frame) ≤ length (now out) ⌝ }
+    ensures { λ r. ⌜ Put place (pairText from frame) (now (out .entry)) (now (out .exit)) r ⌝ }
 {
     let at = offset_of(frame);
     let next = put_run(from, at - from, out, place);
     put_frame(at, count_of(frame), kind_of(frame), out, next)
 }
 
-// The size of the listing's text.
-pub(crate) fn text_size(found: &[u32], len: usize) -> usize
-    requires { ⌜ len ≤ 4096 ⌝ }
-    requires { ⌜ Within 0 (now found) len ⌝ }
-    requires { ⌜ length (foundText 0 (now found) len) ≤ 8 * len + 25 ⌝ }
-    ensures { λ r. ⌜ r ≡ length (foundText 0 (now (found .entry)) len) ⌝ }
+// The size of the text of the frames from an offset on, with the noise before each.
+pub(crate) fn frames_size(found: &[u32], from: usize) -> usize
+    requires { ⌜ Within from (now found) 4096 ⌝ }
+    requires { ⌜ length (now found) ≤ 4096 ⌝ }
+    ensures { λ r. ⌜ r ≡ length (framesText from (now (found .entry))) ⌝ }
 {
     let mut size = 0;
-    let mut from = 0;
+    let mut at = from;
     let mut i = 0;
     while i < found.len() {
         let frame = found[i];
-        size += piece_size(from, frame);
-        from = end_of(frame);
+        size += pair_size(at, frame);
+        at = end_of(frame);
         i += 1;
     }
-    size + run_size(from, len - from) + end_size(len)
+    size
 }
 
-// Writes the listing's text, which is known to fit, and answers its size.
-pub(crate) fn put_listing(found: &[u32], len: usize, out: &mut [u8]) -> usize
+// Whether the lines of frames fit a room. They are measured only where the room is not enough for any so many.
+pub(crate) fn frames_fit(found: &[u32], from: usize, room: usize) -> bool
+    requires { ⌜ Within from (now found) 4096 ⌝ }
+    requires { ⌜ length (now found) ≤ 4096 ⌝ }
+    ensures { λ r. ⌜ r ≡ leb (length (framesText from (now (found .entry)))) room ⌝ }
+{
+    if ROOM_PER_FRAME * found.len() <= room {
+        return true;
+    }
+    frames_size(found, from) <= room
+}
+
+// The end of the last frame; where there is none, the offset before which frames were looked for.
+pub(crate) fn last_end(found: &[u32], from: usize) -> usize
+    ensures { λ r. ⌜ r ≡ lastEnd from (now (found .entry)) ⌝ }
+{
+    if found.len() == 0 {
+        return from;
+    }
+    let last = found.len() - 1;
+    end_of(found[last])
+}
+
+// The size of the listing's text from an offset on.
+pub(crate) fn text_size(found: &[u32], from: usize, len: usize) -> usize
     requires { ⌜ len ≤ 4096 ⌝ }
-    requires { ⌜ Within 0 (now found) len ⌝ }
-    requires { ⌜ length (foundText 0 (now found) len) ≤ length (now out) ⌝ }
-    ensures { λ r. ⌜ Put 0 (foundText 0 (now (found .entry)) len) (now (out .entry)) (now (out .exit)) r ⌝ }
+    requires { ⌜ Within from (now found) len ⌝ }
+    requires { ⌜ length (now found) ≤ 4096 ⌝ }
+    ensures { λ r. ⌜ r ≡ length (foundText from (now (found .entry)) len) ⌝ }
+{
+    let last = last_end(found, from);
+    frames_size(found, from) + run_size(last, len - last) + end_size(len)
+}
+
+// Writes the text of the frames from an offset on, with the noise before each, which is known to fit, and answers its size.
+pub(crate) fn put_frames(found: &[u32], from: usize, out: &mut [u8]) -> usize
+    requires { ⌜ Within from (now found) 4096 ⌝ }
+    requires { ⌜ length (framesText from (now found)) ≤ length (now out) ⌝ }
+    ensures { λ r. ⌜ Put 0 (framesText from (now (found .entry))) (now (out .entry)) (now (out .exit)) r ⌝ }
 {
     let mut place = 0;
-    let mut from = 0;
+    let mut at = from;
     let mut i = 0;
     while i < found.len() {
         let frame = found[i];
-        place = put_piece(from, frame, out, place);
-        from = end_of(frame);
+        place = put_pair(at, frame, out, place);
+        at = end_of(frame);
         i += 1;
     }
-    let next = put_run(from, len - from, out, place);
+    place
+}
+
+// Writes the listing's text from an offset on, which is known to fit, and answers its size.
+pub(crate) fn put_listing(found: &[u32], from: usize, len: usize, out: &mut [u8]) -> usize
+    requires { ⌜ len ≤ 4096 ⌝ }
+    requires { ⌜ Within from (now found) len ⌝ }
+    requires { ⌜ length (foundText from (now found) len) ≤ length (now out) ⌝ }
+    ensures { λ r. ⌜ Put 0 (foundText from (now (found .entry)) len) (now (out .entry)) (now (out .exit)) r ⌝ }
+{
+    let last = last_end(found, from);
+    let place = put_frames(found, from, out);
+    let next = put_run(last, len - last, out, place);
     put_end(len, out, next)
 }

@@ -27,9 +27,9 @@ fn next_frame(bytes: &[u8], from: usize) -> u32
 }
 
 // How far the search got: the offset from which on nothing is judged yet, and how many frames are kept.
-struct Reached {
-    at: usize,
-    count: usize,
+pub(crate) struct Reached {
+    pub(crate) at: usize,
+    pub(crate) count: usize,
 }
 
 // Keeps a frame and those that join it, up to a noise byte or the limit.

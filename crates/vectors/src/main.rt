@@ -1,7 +1,7 @@
 // Runs the vectors on standard input, a line for each: the name of a call, then what it is given, in hex. Prints each line with the
 // call's answer behind it. A line that starts with no such name, as a comment, is printed as it is. The calls are those of the C interface,
 // whose answers are packed numbers, but for the tally, which is called in its crate.
-mod captures; // the listing
+mod captures; // the listing, of a whole capture and in pieces
 mod input; // lines, names and digits
 mod model; // the model thermostat, temperatures, cost words and the tally
 mod omnilink; // Omni-Link frames and messages, read
@@ -41,7 +41,7 @@ fn named(line: &[u8], names: &[u8]) -> u64 {
 fn call_of(line: &[u8]) -> u64 {
     named(
         line,
-        b"read places\nread frame\nread message\nat thermostat\nat host\nstep\ntemperatures\ncost\ntally\nlisting\nwrite unit\nwrite function\nwrite extended\nwrite frame\nwrite message\nto thermostat\nto host\ntext to thermostat\ntext to host\n",
+        b"read places\nread frame\nread message\nat thermostat\nat host\nstep\ntemperatures\ncost\ntally\nlisting\nwrite unit\nwrite function\nwrite extended\nwrite frame\nwrite message\nto thermostat\nto host\ntext to thermostat\ntext to host\ncut\n",
     )
 }
 
@@ -70,6 +70,7 @@ fn answer_call(call: u64, bytes: &[u8]) {
         9 => captures::list(bytes),
         10..=12 => patterns::write(call, bytes),
         13..=18 => writers::write(call, bytes),
+        19 => captures::cut(bytes),
         _ => {}
     }
 }

@@ -108,6 +108,15 @@ mod gateway {
             room: usize,
         ) -> u64;
         pub fn capture_listing(bytes: *const u8, len: usize, out: *mut u8, room: usize) -> u64;
+        pub fn capture_piece(
+            state: *mut u8,
+            state_len: usize,
+            bytes: *const u8,
+            len: usize,
+            out: *mut u8,
+            room: usize,
+        ) -> u64;
+        pub fn capture_finish(state: *mut u8, state_len: usize, out: *mut u8, room: usize) -> u64;
     }
 }
 
@@ -308,4 +317,21 @@ pub fn x10_write_extended(house: u8, unit: u8, data: u8, command: u8, out: Lent)
 
 pub fn capture_listing(b: Lent, out: Lent) -> u64 {
     unsafe { gateway::capture_listing(b.pointer, b.len, out.pointer, out.len) }
+}
+
+pub fn capture_piece(state: Lent, b: Lent, out: Lent) -> u64 {
+    unsafe {
+        gateway::capture_piece(
+            state.pointer,
+            state.len,
+            b.pointer,
+            b.len,
+            out.pointer,
+            out.len,
+        )
+    }
+}
+
+pub fn capture_finish(state: Lent, out: Lent) -> u64 {
+    unsafe { gateway::capture_finish(state.pointer, state.len, out.pointer, out.len) }
 }

@@ -34,13 +34,15 @@ pub enum Call {
     X10WriteFunction,
     X10WriteExtended,
     Listing,
+    Piece,
+    Finish,
 }
 
 const MESSAGE_READER: &[u8] = &[1, 2, 3, 4, 5, 6, 7, 8];
 const OMNISTAT_READER: &[u8] = &[1, 2, 4, 5, 6, 7, 8];
 
 /// The calls in the order of `Call`, each with the refusals that documents 01 and 02 name for it.
-pub const CALLS: [(&str, &[u8]); 27] = [
+pub const CALLS: [(&str, &[u8]); 29] = [
     ("omnilink_frame_read", &[1, 2, 3, 4, 5]),
     ("omnilink_frame_write", &[3, 9]),
     ("omnilink_message_read", MESSAGE_READER),
@@ -68,6 +70,8 @@ pub const CALLS: [(&str, &[u8]); 27] = [
     ("x10_write_function", &[6, 8, 9]),
     ("x10_write_extended", &[8, 9]),
     ("capture_listing", &[3, 9]),
+    ("capture_piece", &[3, 8, 9]),
+    ("capture_finish", &[8, 9]),
 ];
 
 /// How many disagreements are printed.
@@ -80,6 +84,7 @@ pub struct Compare {
     output: Region,
     map: Region,
     texts: Region,
+    capture: Region,
     random: Random,
     /// Where the content of a lent output before the call is taken from.
     prior: Vec<u8>,
@@ -114,6 +119,7 @@ impl Compare {
             output: Region::new(PRIOR / 4096 + 1, random.next()),
             map: Region::new(1, random.next()),
             texts: Region::new(1, random.next()),
+            capture: Region::new(1, random.next()),
             prior: random.bytes(PRIOR),
             random,
             counts: [[0; 12]; CALLS.len()],
@@ -129,6 +135,7 @@ impl Compare {
         self.output.reseed(self.random.next());
         self.map.reseed(self.random.next());
         self.texts.reseed(self.random.next());
+        self.capture.reseed(self.random.next());
         calls::reseed(self.random.next());
         self.prior = self.random.bytes(PRIOR);
     }
@@ -506,5 +513,74 @@ impl Compare {
             right,
             calls::capture_listing,
         );
+    }
+
+    /// A piece; `state` is changed as the documents say. Gives what the library wrote, or nothing where it refused.
+    pub fn piece(&mut self, state: &mut Vec<u8>, bytes: &[u8], room: usize) -> Vec<u8> {
+        let before = state.clone();
+        let right = paper::capture_piece(state, bytes, room);
+        self.lists(
+            Call::Piece,
+            (&before, state),
+            bytes,
+            room,
+            right,
+            calls::capture_piece,
+        )
+    }
+
+    /// The finishing call, likewise.
+    pub fn finish(&mut self, state: &mut Vec<u8>, room: usize) -> Vec<u8> {
+        let before = state.clone();
+        let right = paper::capture_finish(state, room);
+        self.lists(
+            Call::Finish,
+            (&before, state),
+            &[],
+            room,
+            right,
+            |state, _, out| calls::capture_finish(state, out),
+        )
+    }
+
+    /// A call of a capture in pieces: the state before it and after it, the piece, the room, and the lines.
+    fn lists(
+        &mut self,
+        call: Call,
+        (before, after): (&[u8], &[u8]),
+        bytes: &[u8],
+        room: usize,
+        right: Answer<Vec<u8>>,
+        run: impl FnOnce(Lent, Lent, Lent) -> u64,
+    ) -> Vec<u8> {
+        let from = self.random.below(PRIOR - room + 1);
+        let prior = &self.prior[from..from + room];
+        let lent = self.input.lend(bytes);
+        let out = self.output.lend(prior);
+        let state = self.capture.lend(before);
+        guard::announce(CALLS[call as usize].0, lent, self.passed, self.failed);
+        let got = run(state, lent, out);
+        let written = right.as_deref().unwrap_or(&[]);
+        let right = valued(right.as_ref().map(|w| w.len() as u64).map_err(|&n| n));
+        let same = self.output.holds(out, written, &prior[written.len()..])
+            && self.capture.holds(state, after, &[])
+            && self.input.holds(lent, bytes, &[]);
+        let agrees = got == right && same;
+        let mut output = self.output.content(out);
+        let told = if agrees {
+            String::new()
+        } else {
+            let (before, after, input) = (hex(before), hex(after), hex(bytes));
+            let (prior, written) = (hex(prior), hex(written));
+            let (state, output) = (hex(&self.capture.content(state)), hex(&output));
+            format!(
+                "state {before}, piece {input}, output before {prior}, expected {right:#X} {written}, state {after}, \
+                 got {got:#X}, output {output}, state {state}"
+            )
+        };
+        self.judge(call, right, agrees, || told);
+        let count = if got & 0xFF == 0 { got >> 8 } else { 0 };
+        output.truncate(usize::try_from(count).unwrap_or(0));
+        output
     }
 }

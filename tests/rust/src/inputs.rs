@@ -124,7 +124,7 @@ fn index(random: &mut Random) -> usize {
 }
 
 /// Around the size that is needed: enough, tight, one short, or any.
-fn room(random: &mut Random, needed: usize) -> usize {
+pub fn room(random: &mut Random, needed: usize) -> usize {
     match random.below(6) {
         0 | 1 => needed,
         2 => needed.saturating_sub(1),

@@ -9,6 +9,7 @@ mod compare;
 mod guard;
 mod inputs;
 mod paper;
+mod pieces;
 mod random;
 mod sweeps;
 
@@ -20,7 +21,7 @@ use std::time::{Duration, Instant, SystemTime, UNIX_EPOCH};
 const SEEDS: [u64; 3] = [1, 2, 3];
 /// Rounds of random inputs for each seed where no time is given.
 const ROUNDS: u64 = 60_000;
-/// One round in this many also lists captures.
+/// One round in this many also lists captures, whole and in pieces.
 const LISTING: u64 = 64;
 
 struct Arguments {
@@ -77,6 +78,7 @@ fn random_part(compare: &mut Compare, random: &mut Random, seconds: Option<u64>)
         let size = random.pick(&[0, 10, 100, 400]);
         let size = random.from(size, size + 100);
         inputs::listings(compare, random, size);
+        pieces::random_cutting(compare, random, size);
         round += LISTING;
     }
 }

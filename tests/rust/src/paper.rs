@@ -688,3 +688,131 @@ pub fn listing(bytes: &[u8], room: usize) -> Answer<Vec<u8>> {
     text += &format!("end {}\n", bytes.len());
     fit(text.into_bytes(), room)
 }
+
+// K3: the bytes of the state of a capture that comes in pieces.
+pub const CAPTURE_STATE: usize = 74;
+
+// K3: the rooms that are enough for a piece of `len` bytes, and for the finishing call, as the header says.
+pub fn enough_for_piece(len: usize) -> usize {
+    8 * len + 544
+}
+
+pub const ENOUGH_TO_FINISH: usize = 569;
+
+// K3: how many bytes have come, how many of them are noise that has no line yet, and the unread ones.
+struct Pieces {
+    came: usize,
+    noise: usize,
+    unread: Vec<u8>,
+}
+
+// K3: what is known of the place that starts the bytes; a frame with its count of bytes.
+enum Place {
+    Frame(usize),
+    Noise,
+    Open,
+}
+
+// K3: a start byte, a length or a whole frame settles a place.
+fn place(bytes: &[u8]) -> Place {
+    let whole = bytes.get(1).map_or(1, |&length| usize::from(length) + 4);
+    match frame_read(&bytes[..whole.min(bytes.len())]) {
+        Ok(_) => Place::Frame(whole),
+        Err(SHORT) => Place::Open,
+        Err(_) => Place::Noise,
+    }
+}
+
+impl Pieces {
+    // K3: the state that bytes stand for; 8 where no pieces lead to it. Before the noise and the unread bytes stands nothing, or
+    // a frame last.
+    fn new(bytes: &[u8]) -> Answer<Pieces> {
+        require(bytes.len() == CAPTURE_STATE, FIELD)?;
+        let word = |i: usize| 256 * usize::from(bytes[i]) + usize::from(bytes[i + 1]);
+        let (came, noise, count) = (word(0), word(2), usize::from(bytes[4]));
+        require(count <= 69, FIELD)?;
+        let (unread, behind) = bytes[5..].split_at(count);
+        require(came <= 4096 && noise + count <= came, FIELD)?;
+        let before = came - noise - count;
+        require(before == 0 || before >= 5, FIELD)?;
+        let started = match unread {
+            [] | [0x5A] => true,
+            [0x5A, length @ 0x01..=0x41, ..] => count < usize::from(*length) + 4,
+            _ => false,
+        };
+        require(started, FIELD)?;
+        require(behind.iter().all(|&byte| byte == 0), FIELD)?;
+        let unread = unread.to_vec();
+        Ok(Pieces {
+            came,
+            noise,
+            unread,
+        })
+    }
+
+    fn bytes(&self) -> Vec<u8> {
+        let word = |number: usize| [(number / 256) as u8, (number % 256) as u8];
+        let mut bytes = [word(self.came), word(self.noise)].concat();
+        bytes.push(self.unread.len() as u8);
+        bytes.extend(&self.unread);
+        bytes.resize(CAPTURE_STATE, 0);
+        bytes
+    }
+
+    // K3: the line of the noise that has none, if there is any; it ends before byte number `at`.
+    fn noise_line(&mut self, at: usize) -> String {
+        let noise = std::mem::take(&mut self.noise);
+        if noise == 0 {
+            String::new()
+        } else {
+            format!("noise {} {noise}\n", at - noise)
+        }
+    }
+
+    // K3: judges the places of the unread bytes from the left, up to an open one; where the capture ends, that is cut off and so
+    // noise.
+    fn judge(&mut self, ends: bool) -> String {
+        let mut text = String::new();
+        let unread = std::mem::take(&mut self.unread);
+        let mut rest = &unread[..];
+        while !rest.is_empty() {
+            match place(rest) {
+                Place::Frame(size) => {
+                    let at = self.came - rest.len();
+                    text += &self.noise_line(at);
+                    text += &format!("frame {at} {size} {}\n", rest[2]);
+                    rest = &rest[size..];
+                }
+                Place::Open if !ends => break,
+                _ => {
+                    self.noise += 1;
+                    rest = &rest[1..];
+                }
+            }
+        }
+        self.unread = rest.to_vec();
+        text
+    }
+}
+
+// K3: a piece. The lines; where they are refused, the state stays.
+pub fn capture_piece(state: &mut Vec<u8>, bytes: &[u8], room: usize) -> Answer<Vec<u8>> {
+    let mut pieces = Pieces::new(state)?;
+    require(pieces.came + bytes.len() <= 4096, LENGTH)?;
+    pieces.came += bytes.len();
+    pieces.unread.extend(bytes);
+    let text = fit(pieces.judge(false).into_bytes(), room)?;
+    *state = pieces.bytes();
+    Ok(text)
+}
+
+// K3: the finishing call. The last lines; the state is fresh then.
+pub fn capture_finish(state: &mut Vec<u8>, room: usize) -> Answer<Vec<u8>> {
+    let mut pieces = Pieces::new(state)?;
+    let mut text = pieces.judge(true);
+    text += &pieces.noise_line(pieces.came);
+    text += &format!("end {}\n", pieces.came);
+    let text = fit(text.into_bytes(), room)?;
+    *state = vec![0; CAPTURE_STATE];
+    Ok(text)
+}

@@ -5,6 +5,7 @@ use crate::compare::{Call, Compare};
 use crate::guard::{Long, Region};
 use crate::inputs::{self, OMNILINK_TYPES, SPECIAL};
 use crate::paper::{self, Body, Omnistat, State};
+use crate::pieces;
 use crate::random::Random;
 
 pub fn all(compare: &mut Compare, random: &mut Random) {
@@ -26,6 +27,7 @@ pub fn all(compare: &mut Compare, random: &mut Random) {
     x10_writers(compare, random);
     x10_extended(compare, random);
     captures(compare, random);
+    pieces::all(compare, random);
     long_inputs(compare);
     long_rooms(compare);
 }
@@ -744,6 +746,8 @@ fn long_inputs(compare: &mut Compare) {
     compare.answer(Call::FrameRead, calls::omnilink_frame_read(b), 4);
     compare.answer(Call::MessageRead, calls::omnilink_message_read(b), 4);
     compare.answer(Call::Listing, calls::capture_listing(b, out), 3);
+    let state = Region::new(1, 0).lend(&[0; paper::CAPTURE_STATE]);
+    compare.answer(Call::Piece, calls::capture_piece(state, b, out), 3);
     let b = long.lend(&paper::frame(0x16, &[0, 0]));
     compare.answer(Call::Zone, calls::omnilink_zone(b, 0), 4);
     let b = long.lend(&paper::frame(0x23, &[0, 0]));
@@ -802,6 +806,11 @@ fn long_inputs(compare: &mut Compare) {
     let long_texts = long.lend(&[0; paper::STORE]);
     let got = calls::thermostat_step(1, map, long_texts, poll, out);
     compare.answer(Call::Step, got, 9);
+    let long_state = long.lend(&[0; paper::CAPTURE_STATE]);
+    let got = calls::capture_piece(long_state, poll, out);
+    compare.answer(Call::Piece, got, 8);
+    let got = calls::capture_finish(long_state, out);
+    compare.answer(Call::Finish, got, 8);
 }
 
 /// Rooms of 2^32 bytes, which are enough.
@@ -838,6 +847,12 @@ fn long_rooms(compare: &mut Compare) {
     written(compare, Call::X10WriteExtended, got, &right);
     let got = calls::capture_listing(none, out);
     written(compare, Call::Listing, got, b"end 0\n");
+    let state = Region::new(1, 0).lend(&[0; paper::CAPTURE_STATE]);
+    let frame = input.lend(&paper::frame(0x05, &[]));
+    let got = calls::capture_piece(state, frame, out);
+    written(compare, Call::Piece, got, b"frame 0 5 5\n");
+    let got = calls::capture_finish(state, out);
+    written(compare, Call::Finish, got, b"end 5\n");
     let text = input.lend(b"low");
     let got = calls::omnistat_write_text_to_thermostat([9, 2, 175], text, out);
     let right = paper::omnistat_text(9, 1, 2, 175, b"low");

@@ -13,6 +13,7 @@ use Rattle.link.proofs.Laws.Whole.{Whole, whole, counted, few}
 -- what is known of the bytes where a frame starts
 pub record Starting (s : List ℕ) (f : Frame) : Type 0 where
   pub start : getD s 0 0 ≡ 0x5A
+  pub sized : size f ≡ getD s 1 0 + 4
   pub inside : size f ≤ length s
   pub least : 5 ≤ size f
   pub most : size f ≤ 69
@@ -31,6 +32,7 @@ starting s f e =
     let type-byte : f .kind ≡ getD s 2 0 = ap (λ (g : Frame). g .kind) (w .is) ∙ getD-take n s 2 0 (omega arith) in
     record {
       start = sym (getD-take n s 0 0 (omega arith)) ∙ w .start;
+      sized = all;
       inside = omega arith;
       least = omega arith;
       most = omega (arith, few (take n s) f e);

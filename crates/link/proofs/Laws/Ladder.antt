@@ -9,6 +9,7 @@ use lib.ListN.{length, getD, take, drop, length-append, length-take, length-drop
 use borrow.Author.Tests.{eq-eqb, ne-eqb, lt-ltb, le-ltb}
 use Rattle.answer.specs.Answer.{Outcome, refused, accepted, onAccepted, inRoom}
 use Rattle.answer.proofs.Laws.Output.{no-room, with-room}
+use Rattle.answer.proofs.Laws.Test.{not-accepted}
 use Rattle.crc.specs.Crc.{crc}
 use Rattle.link.specs.Frame.{Frame, header, covered, sent, readBody, readFrame, frameBytes, writeFrame}
 
@@ -73,6 +74,14 @@ module _ (s : List ℕ) (l : ℕ) where
           whole-header h =
               ap (onAccepted header) (whole-frame h)
               ∙ ap (λ (n : ℕ). accepted (record { kind = getD s 2 0; count = n })) count
+
+          -- enough bytes are not too few
+          pub whole-not-short : readBody s l ≡ refused 1 → ⊥
+          whole-not-short e = go (eqb (sent s l) (crc (covered s l))) refl
+            where
+              go : (t : Bool) → eqb (sent s l) (crc (covered s l)) ≡ t → ⊥
+              go true h = not-accepted 1 (record { kind = getD s 2 0; bytes = take (l - 1) (drop 3 s) }) (sym e ∙ whole-frame h)
+              go false h = let z : _≡_ {A = ℕ} 5 1 = cc (wrong-crc h, e) in omega arith
 
 -- the frame writer's answers
 pub frame-length : (kind : ℕ) (d : List ℕ) → length (frameBytes kind d) ≡ length d + 5

@@ -16,7 +16,7 @@ use Rattle.link.proofs.Laws.Whole.{counted}
 use Rattle.listing.specs.Lines.{Line, noise, frame, end, lines, linesFrom, afterNoise}
 use Rattle.listing.specs.Faithful.{NoFrame, NotNoise, Tells, Faithful}
 use Rattle.listing.specs.Parts.{Quiet}
-use Rattle.listing.proofs.Laws.Pieces.{a-frame, noise-byte, quiet-none, quiet-more, quiet-lines, closed-at-end, closed-at-frame}
+use Rattle.listing.proofs.Laws.Places.{a-frame, noise-byte, quiet-none, quiet-more, quiet-lines, closed-at-end, closed-at-frame}
 
 -- a claim about the lines from an offset on, with so many noise bytes just before: at the end, at a noise byte, at a frame
 module _ (s : List ℕ) (P : ℕ → ℕ → List Line → Type 0)
@@ -47,10 +47,10 @@ module _ (s : List ℕ) (P : ℕ → ℕ → List Line → Type 0)
   unfolding Here
   noisy offset run h none p = subst (P offset run) (sym (noise-byte s offset run h none)) (at-noise offset run _ h none p)
 
-  -- one piece, by what stands there
-  piece : (left offset run : ℕ) → length s ≤ offset + suc left → offset ≤ length s
+  -- one place, by what stands there
+  at-place : (left offset run : ℕ) → length s ≤ offset + suc left → offset ≤ length s
       → ((at more : ℕ) → length s ≤ at + left → at ≤ length s → Here at more) → Here offset run
-  piece left offset run h g later = here (ltb offset (length s)) refl
+  at-place left offset run h g later = here (ltb offset (length s)) refl
     where
       there : (o : Outcome Frame) → offset < length s → readFirst (drop offset s) ≡ o → Here offset run
       there (accepted f) in-it e =
@@ -66,11 +66,11 @@ module _ (s : List ℕ) (P : ℕ → ℕ → List Line → Type 0)
 
   from : (left offset run : ℕ) → length s ≤ offset + left → offset ≤ length s → Here offset run
   from zero offset run h g = ended offset run (le-antisymm g (omega arith))
-  from (suc left) offset run h g = piece left offset run h g (from left)
+  from (suc left) offset run h g = at-place left offset run h g (from left)
 
-  by-pieces : P 0 0 (lines s)
+  by-places : P 0 0 (lines s)
   unfolding Here
-  by-pieces = from (length s) 0 0 (omega arith) (omega arith)
+  by-places = from (length s) 0 0 (omega arith) (omega arith)
 
 -- the lines after the noise, with the noise line before them
 tells-after : (s : List ℕ) (offset run : ℕ) (ls : List Line) → run ≤ offset → Quiet s (offset - run) offset → NotNoise ls → Tells s offset ls
@@ -89,7 +89,7 @@ tells-after s offset (suc n) ls le q other p =
 -- the listing of any capture is faithful
 pub faithful : (s : List ℕ) → Faithful s (lines s)
 faithful s =
-    by-pieces s (λ offset run ls. run ≤ offset → Quiet s (offset - run) offset → Tells s (offset - run) ls)
+    by-places s (λ offset run ls. run ≤ offset → Quiet s (offset - run) offset → Tells s (offset - run) ls)
     (λ run h q. tells-after s (length s) run (end (length s) ∷ []) h q tt (refl, refl, refl))
     (λ offset run ls in-it none p h q.
     let same : offset + 1 - (run + 1) ≡ offset - run = omega arith in

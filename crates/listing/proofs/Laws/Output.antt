@@ -1,12 +1,12 @@
 -- Bytes put into the output one part after another. Assumes nothing.
-use mathlib.Core.Path.{_≡_, sym, ap, ap₂, _∙_}
+use mathlib.Core.Path.{_≡_, refl, sym, ap, ap₂, _∙_}
 use mathlib.Core.List.{List, [], _∷_, _++_, append-assoc, append-nil}
-use Prim.Native.Nat.{ℕ, suc, _+_, _≤_}
+use Prim.Native.Nat.{ℕ, suc, _+_, _-_, _≤_}
 use native.Mathlib.Nat.{add-zero, add-assoc}
 use native.Mathlib.Numerals.{towards-suc}
 use native.Mathlib.Omega.{arith}
-use lib.ListN.{length, take, drop, set, length-append, length-take, length-drop, take-append-drop}
-use lib.Seq.{sets, sets-eq, take-at, drop-at, drop-drop}
+use lib.ListN.{length, take, drop, set, length-append, length-take, length-drop, take-append-drop, drop-of-length-le}
+use lib.Seq.{sets, sets-eq, take-all, take-at, take-length, drop-at, drop-drop}
 use Rattle.listing.specs.Parts.{placed, Put}
 
 -- a run of stores
@@ -104,3 +104,22 @@ from-start {next} {xs} {old} p =
 
 pub size-from-start : {next : ℕ} {xs old after : List ℕ} → Put 0 xs old after next → next ≡ length xs
 size-from-start p = omega (arith, p .moved)
+
+-- bytes copied into a part that is no longer than they are
+pub copied : (xs old : List ℕ) (n : ℕ) → n ≤ length xs → take (length xs) xs ++ drop (length xs) (take n old) ≡ xs
+copied xs old n h =
+    let none : drop (length xs) (take n old) ≡ [] = drop-of-length-le (take n old) {i = length xs} (simp length-take (omega arith)) in
+    ap₂ (λ (x y : List ℕ). x ++ y) (take-length xs) none ∙ append-nil xs
+
+-- bytes put at the start, and then others behind them
+pub two-parts : {xs ys first second : List ℕ} (old₁ old₂ : List ℕ) → first ≡ xs → second ≡ ys
+    → take (length xs + length ys) (take (length xs) (first ++ old₁) ++ (second ++ old₂)) ≡ xs ++ ys
+two-parts {xs} {ys} {first} {second} old₁ old₂ e f =
+    ap₂ (λ (x y : List ℕ). take (length xs + length ys) (take (length xs) (x ++ old₁) ++ (y ++ old₂))) e f
+    ∙ ap (λ (x : List ℕ). take (length xs + length ys) (x ++ (ys ++ old₂))) (take-at xs old₁ (length xs) refl)
+    ∙ ap (take (length xs + length ys)) (sym (append-assoc xs ys old₂))
+    ∙ take-at (xs ++ ys) old₂ (length xs + length ys) (length-append xs ys)
+
+-- a part up to the end
+pub behind-all : (s : List ℕ) (at : ℕ) → take (length s - at) (drop at s) ≡ drop at s
+behind-all s at = take-all (length s - at) (drop at s) (omega (arith, length-drop at s))

@@ -19,7 +19,7 @@ run-bound offset zero h g = omega arith
 run-bound offset (suc n) h g =
     omega (arith, noise-length offset (suc n), at-most-four offset h, at-most-four (suc n) g)
 
-after-bound : (offset run : ℕ) (ls : List Line) → offset < 10000 → run < 10000
+pub after-bound : (offset run : ℕ) (ls : List Line) → offset < 10000 → run < 10000
     → length (text (afterNoise offset run ls)) ≤ length (text ls) + 16
 unfolding afterNoise text
 after-bound offset zero ls h g = omega arith
@@ -37,7 +37,7 @@ pub frame-line : (offset count kind : ℕ) → offset < 10000 → count < 10000 
 frame-line offset count kind h g k =
     omega (arith, frame-length offset count kind, at-most-four offset h, at-most-four count g, at-most-four kind k)
 
-frame-bound : (offset count kind : ℕ) (ls : List Line) → offset < 10000 → count < 10000 → kind < 10000
+pub frame-bound : (offset count kind : ℕ) (ls : List Line) → offset < 10000 → count < 10000 → kind < 10000
     → length (text (frame offset count kind ∷ ls)) ≤ length (text ls) + 21
 unfolding text
 frame-bound offset count kind ls h g k =
@@ -49,7 +49,7 @@ end-bound offset h =
     omega (arith, length-append (lineText (end offset)) [], end-length offset, at-most-four offset h)
 
 -- a run's line is counted to the frame or the end behind it: 16 and 21 bytes for a frame of at least 5 bytes, 16 and 9 for the end
-bound-from : (offset run taken : ℕ) (s : List ℕ) → ((i : ℕ) → getD s i 0 < 10000) → run ≤ offset → offset + length s < 10000
+pub bound-from : (offset run taken : ℕ) (s : List ℕ) → ((i : ℕ) → getD s i 0 < 10000) → run ≤ offset → offset + length s < 10000
     → taken ≤ length s → length (text (linesFrom offset run taken s)) ≤ 8 * (length s - taken) + 25
 unfolding linesFrom
 bound-from offset run taken [] small r o t =

@@ -9,7 +9,7 @@ use mathlib.Core.Path.{_≡_, refl, sym, ap, _∙_}
 use native.Mathlib.Omega.{arith}
 use Rattle.answer.specs.Answer.{Outcome, refused, accepted, onAccepted, inRoom, outAfter}
 use Rattle.listing.proofs.Laws.Answers.{found-size, found-too-little, found-fits}
-use Rattle.listing.proofs.Laws.Found.{found-all}
+use Rattle.listing.proofs.Laws.Found.{found-few, found-all}
 use Rattle.listing.proofs.Laws.Output.{from-start, size-from-start}
 use Rattle.listing.proofs.write_with.Statement.{statement}
 use Rattle.listing.proofs.write_with.Tie as tie
@@ -30,7 +30,7 @@ has-room-requires c κs =
     let small = c .before .before .before .before .before .before .before .before .pre .0 in
     let known = c .before .before .before .before .before .before .before .shared-slice-known .given in
     let told = found-all (c .before .before .before .find .ensures) refl in
-    (small, (told .within, found-size s _ small told (λ i. omega (arith, known i))))
+    (small, (told .within, (omega (arith, small, found-few (c .before .before .before .find .ensures)), found-size s _ small told (λ i. omega (arith, known i)))))
 
 same-length : tie.Need-same-length
 same-length c = search needs

@@ -1,19 +1,14 @@
-use Prim.Native.Nat.{ℕ, _-_}
+use Prim.Native.Nat.{ℕ}
 use borrow.Author.Needs.{needs}
-use lib.ListN.{length, take, drop, length-drop}
-use lib.Seq.{take-all}
+use lib.ListN.{drop}
 use mathlib.Core.List.{List}
-use mathlib.Core.Path.{_≡_, sym, ap, _∙_}
-use native.Mathlib.Omega.{arith}
+use mathlib.Core.Path.{sym, ap, _∙_}
 use Rattle.answer.specs.Answer.{onAccepted}
 use Rattle.link.specs.Frame.{header, outcomeOf, readFirst}
+use Rattle.listing.proofs.Laws.Output.{behind-all}
 use Rattle.listing.proofs.Laws.Frames.{judged-other, judged-frame, judged-refused}
 use Rattle.listing.proofs.place.judge.Statement.{statement}
 use Rattle.listing.proofs.place.judge.Tie as tie
-
--- what the code hands to the reader
-behind-all : (s : List ℕ) (at : ℕ) → take (length s - at) (drop at s) ≡ drop at s
-behind-all s at = take-all (length s - at) (drop at s) (omega (arith, length-drop at s))
 
 shared-slice-read-if1 : tie.Need-shared-slice-read-if1
 shared-slice-read-if1 c = search needs

@@ -6,7 +6,7 @@ use mathlib.Core.Path.{_≡_, refl, sym, subst⁻¹, _∙_}
 use native.Mathlib.Omega.{arith}
 use Rattle.listing.proofs.Laws.Found.{found-quiet, found-place, found-frame}
 use Rattle.listing.proofs.Laws.Frames.{inside, judged-none, judged-some}
-use Rattle.listing.proofs.Laws.Pieces.{quiet-none, quiet-more}
+use Rattle.listing.proofs.Laws.Places.{quiet-none, quiet-more}
 use Rattle.listing.proofs.scan.keep_joined.Statement.{statement}
 use Rattle.listing.proofs.scan.keep_joined.Tie as tie
 use Rattle.listing.specs.Parts.{offsetIn, behind, Stands, Found}

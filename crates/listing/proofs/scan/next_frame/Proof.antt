@@ -4,7 +4,7 @@ use lib.ListN.{length}
 use mathlib.Core.Path.{_≡_, refl, sym, subst⁻¹, _∙_}
 use native.Mathlib.Omega.{arith}
 use Rattle.listing.proofs.Laws.Frames.{judged-none, judged-some}
-use Rattle.listing.proofs.Laws.Pieces.{quiet-none, quiet-more}
+use Rattle.listing.proofs.Laws.Places.{quiet-none, quiet-more}
 use Rattle.listing.proofs.scan.next_frame.Statement.{statement}
 use Rattle.listing.proofs.scan.next_frame.Tie as tie
 use Rattle.listing.specs.Parts.{Quiet}

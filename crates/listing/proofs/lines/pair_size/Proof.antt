@@ -1,10 +1,10 @@
 use Prim.Native.Nat.{_-_}
 use borrow.Author.Needs.{needs}
 use native.Mathlib.Omega.{arith}
-use Rattle.listing.proofs.Laws.Found.{piece-size}
+use Rattle.listing.proofs.Laws.FramesText.{pair-size}
 use Rattle.listing.proofs.Laws.Sizes.{run-bound, frame-line}
-use Rattle.listing.proofs.lines.piece_size.Statement.{statement}
-use Rattle.listing.proofs.lines.piece_size.Tie as tie
+use Rattle.listing.proofs.lines.pair_size.Statement.{statement}
+use Rattle.listing.proofs.lines.pair_size.Tie as tie
 
 offset-of-requires : tie.Need-offset-of-requires
 offset-of-requires c κs = search needs
@@ -42,11 +42,11 @@ returns c =
       arith,
       c .before .before .before .run-size .ensures,
       c .frame-size .ensures,
-      piece-size (a .from) (a .frame) _ _ _ (c .before .before .before .before .offset-of .ensures) (c .before .before .count-of .ensures) (c .before .kind-of .ensures),
+      pair-size (a .from) (a .frame) _ _ _ (c .before .before .before .before .offset-of .ensures) (c .before .before .count-of .ensures) (c .before .kind-of .ensures),
     )
 
-pub piece-size-spec : {M : Type 1} → statement M
-piece-size-spec =
+pub pair-size-spec : {M : Type 1} → statement M
+pair-size-spec =
     tie.close
     (tie.spec
     offset-of-requires

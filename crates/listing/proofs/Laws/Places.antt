@@ -1,7 +1,7 @@
--- The listing piece by piece: a noise byte, a run of noise, a frame, the end. Assumes nothing.
+-- The listing place by place: a noise byte, a run of noise, a frame, the end. Assumes nothing.
 use mathlib.Core.Path.{_≡_, refl, sym, ap, ap₂, subst⁻¹, _∙_}
 use mathlib.Core.Bool.{Bool, true, false}
-use mathlib.Core.List.{List, [], _∷_, _++_, append-nil}
+use mathlib.Core.List.{List, [], _∷_, _++_, append-nil, append-assoc}
 use Prim.Native.Nat.{ℕ, zero, suc, _+_, _-_, _<_, _≤_}
 use native.Mathlib.Nat.{add-zero}
 use native.Mathlib.Numerals.{add-one}
@@ -27,7 +27,7 @@ skip (suc k) offset run (b ∷ s) h =
     let e : offset + 1 + k ≡ offset + suc k = omega arith in
     skip k (offset + 1) run s (omega arith) ∙ ap (λ (n : ℕ). linesFrom n run 0 (drop k s)) e
 
-no-frame : (b : ℕ) (s : List ℕ) (offset run : ℕ) → ((f : Frame) → readFirst (b ∷ s) ≡ accepted f → ⊥)
+pub no-frame : (b : ℕ) (s : List ℕ) (offset run : ℕ) → ((f : Frame) → readFirst (b ∷ s) ≡ accepted f → ⊥)
     → linesFrom offset run 0 (b ∷ s) ≡ linesFrom (offset + 1) (run + 1) 0 s
 unfolding linesFrom
 no-frame b s offset run none =
@@ -105,7 +105,13 @@ module _ (s : List ℕ) (to run : ℕ) where
   unfolding afterNoise
   closed-at-frame f e = a-frame (drop to s) to run f e ∙ ap (afterNoise to run) (sym (a-frame (drop to s) to 0 f e))
 
-text-after : (offset run : ℕ) (ls : List Line) → text (afterNoise offset run ls) ≡ runText (offset - run) run ++ text ls
+-- the text of lines, and of others behind them
+pub text-joined : (ls ms : List Line) → text (ls ++ ms) ≡ text ls ++ text ms
+unfolding text
+text-joined [] ms = refl
+text-joined (l ∷ ls) ms = ap (λ (x : List ℕ). lineText l ++ x) (text-joined ls ms) ∙ sym (append-assoc (lineText l) (text ls) (text ms))
+
+pub text-after : (offset run : ℕ) (ls : List Line) → text (afterNoise offset run ls) ≡ runText (offset - run) run ++ text ls
 unfolding afterNoise runText text
 text-after offset zero ls = refl
 text-after offset (suc run) ls = refl

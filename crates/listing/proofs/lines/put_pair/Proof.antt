@@ -1,10 +1,10 @@
 use borrow.Author.Needs.{needs}
 use mathlib.Core.Path.{refl}
 use native.Mathlib.Omega.{arith}
-use Rattle.listing.proofs.Laws.Found.{piece-of, piece-size}
+use Rattle.listing.proofs.Laws.FramesText.{pair-of, pair-size}
 use Rattle.listing.proofs.Laws.Output.{joined, put-length, same-bytes}
-use Rattle.listing.proofs.lines.put_piece.Statement.{statement}
-use Rattle.listing.proofs.lines.put_piece.Tie as tie
+use Rattle.listing.proofs.lines.put_pair.Statement.{statement}
+use Rattle.listing.proofs.lines.put_pair.Tie as tie
 
 offset-of-requires : tie.Need-offset-of-requires
 offset-of-requires c κs = search needs
@@ -17,7 +17,7 @@ put-run-requires c κs =
     let a = c .before .before .before .args in
     let pre = c .before .before .before .pre in
     let here = c .before .offset-of .ensures in
-    (omega arith, (omega arith, omega (arith, pre .1 .1, piece-size (a .from) (a .frame) _ _ _ here refl refl)))
+    (omega arith, (omega arith, omega (arith, pre .1 .1, pair-size (a .from) (a .frame) _ _ _ here refl refl)))
 
 count-of-requires : tie.Need-count-of-requires
 count-of-requires c κs = search needs
@@ -36,7 +36,7 @@ put-frame-requires c κs =
         omega arith,
         (
           omega arith,
-          omega (arith, pre .1 .1, put .moved, put-length put, piece-size (a .from) (a .frame) _ _ _ here (c .before .before .count-of .ensures) (c .before .kind-of .ensures)),
+          omega (arith, pre .1 .1, put .moved, put-length put, pair-size (a .from) (a .frame) _ _ _ here (c .before .before .count-of .ensures) (c .before .kind-of .ensures)),
         ),
       ),
     )
@@ -48,11 +48,11 @@ returns : tie.Need-returns
 returns c =
     let a = c .before .before .before .before .before .before .before .before .before .before .before .before .args in
     same-bytes
-    (piece-of (a .from) (a .frame) _ _ _ (c .before .before .before .before .before .before .before .before .before .before .offset-of .ensures) (c .before .before .before .before .before .count-of .ensures) (c .before .before .before .before .kind-of .ensures))
+    (pair-of (a .from) (a .frame) _ _ _ (c .before .before .before .before .before .before .before .before .before .before .offset-of .ensures) (c .before .before .before .before .before .count-of .ensures) (c .before .before .before .before .kind-of .ensures))
     (joined (c .before .before .before .before .before .before .before .before .put-run .ensures) (c .before .before .put-frame .ensures))
 
-pub put-piece-spec : {M : Type 1} → statement M
-put-piece-spec =
+pub put-pair-spec : {M : Type 1} → statement M
+put-pair-spec =
     tie.close
     (tie.spec
     offset-of-requires
