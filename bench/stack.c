@@ -84,7 +84,7 @@ int main(void)
         {"thermostat_step, a text set", text_set}, {"thermostat_step, a text poll", text_poll},
         {"setpoints_to_bytes", setpoints}, {"x10_write_extended", x10_write},
         {"x10_read", x10}, {"capture_listing, 4,096 bytes of frames", listing},
-        {"capture_piece, 4,096 bytes of frames", piece}, {"capture_finish, 66 unread bytes of frames", finish},
+        {"capture_piece, 4,096 bytes of frames", piece}, {"capture_finish, 68 unread bytes with frames", finish},
     };
     if (posix_memalign((void **)&stack, 4096, SIZE)) {
         perror("stack");

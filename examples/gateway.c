@@ -353,7 +353,7 @@ static bool take(struct stream *s, bool quiet, unsigned *frames)
    FRAME_MAX bytes are left from a line that never fell quiet.
    A capture has at most CAPTURE_MAX bytes. Where the next reply might take it above them, it ends here, between two replies, and
    another starts. So on a line that falls quiet between replies the listing cuts no frame in two. On one that never does it may:
-   the frame's bytes are then noise at the end of one capture and at the start of the next, but its message is read. */
+   there is then no frame in either capture, but its message is read. */
 static unsigned read_frames(const struct line *line, struct stream *s)
 {
     unsigned frames = 0;

@@ -15,7 +15,7 @@ ghost use lib.Dec.{leb};
 ghost use lib.ListN.{length};
 ghost use Rattle.listing.specs.Parts.{Put, Within, offsetIn, pairText, framesText, lastEnd, foundText};
 
-// Most bytes of a frame's line with the noise line before it: 16 and 21.
+// A bound for a frame's line, 21 bytes with each number of at most four digits, and the noise line before it, 16.
 const ROOM_PER_FRAME: usize = 37;
 
 // The size of a frame's line, with the noise from an offset up to it.
@@ -40,7 +40,7 @@ fn put_pair(from: usize, frame: u32, out: &mut [u8], place: usize) -> usize
 }
 
 // The size of the text of the frames from an offset on, with the noise before each.
-pub(crate) fn frames_size(found: &[u32], from: usize) -> usize
+fn frames_size(found: &[u32], from: usize) -> usize
     requires { ⌜ Within from (now found) 4096 ⌝ }
     requires { ⌜ length (now found) ≤ 4096 ⌝ }
     ensures { λ r. ⌜ r ≡ length (framesText from (now (found .entry))) ⌝ }
@@ -57,7 +57,8 @@ pub(crate) fn frames_size(found: &[u32], from: usize) -> usize
     size
 }
 
-// Whether the lines of frames fit a room. They are measured only where the room is not enough for any so many.
+// Whether the lines of frames fit a room. They are measured only where the room is not enough for so many
+// frames, whatever they are.
 pub(crate) fn frames_fit(found: &[u32], from: usize, room: usize) -> bool
     requires { ⌜ Within from (now found) 4096 ⌝ }
     requires { ⌜ length (now found) ≤ 4096 ⌝ }

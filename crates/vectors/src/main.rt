@@ -1,6 +1,7 @@
 // Runs the vectors on standard input, a line for each: the name of a call, then what it is given, in hex. Prints each line with the
-// call's answer behind it. A line that starts with no such name, as a comment, is printed as it is. The calls are those of the C interface,
-// whose answers are packed numbers, but for the tally, which is called in its crate.
+// call's answer behind it; behind `cut` stand the three calls of a capture in two pieces, each with its own. A line that starts with no
+// such name, as a comment, is printed as it is. The calls are those of the C interface, whose answers are packed numbers, but for the
+// tally, which is called in its crate.
 mod captures; // the listing, of a whole capture and in pieces
 mod input; // lines, names and digits
 mod model; // the model thermostat, temperatures, cost words and the tally

@@ -1,4 +1,4 @@
-//! One comparison for each call: document 01's answer and memory beside the library's.
+//! One comparison for each call: the papers' answer and memory beside the library's.
 
 use crate::calls::{self, Setpoints};
 use crate::guard::{self, Lent, Region};
