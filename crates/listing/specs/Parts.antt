@@ -61,7 +61,7 @@ unfoldable pub framesText : ℕ → List ℕ → List ℕ
 framesText from [] = []
 framesText from (e ∷ es) = pairText from e ++ framesText (behind e) es
 
--- the offset behind the last of the frames es; where there are none, the one before which they were looked for
+-- the offset behind the last of the frames es; where there are none, the one from which on they were looked for
 unfoldable pub lastEnd : ℕ → List ℕ → ℕ
 lastEnd from [] = from
 lastEnd from (e ∷ es) = lastEnd (behind e) es
@@ -119,7 +119,7 @@ pub record Settles (s : List ℕ) (base from : ℕ) (es : List ℕ) (at : ℕ) :
   pub inside : Within from es (base + at)
   pub same : (t : List ℕ) → judgedAt from base (s ++ t) ≡ after (linesOf from es) (judgedAt (lastEnd from es) (base + at) (drop at s ++ t))
 
--- the bytes s are the last ones, and all are judged: the frames es among them
+-- the bytes s are the last ones, and those before a place are judged: the frames es among them
 pub record Ends (s : List ℕ) (base from : ℕ) (es : List ℕ) (at : ℕ) : Type 0 where
   pub within : at ≤ length s
   pub few : 5 * length es ≤ at

@@ -70,7 +70,7 @@ pub(crate) fn frames_fit(found: &[u32], from: usize, room: usize) -> bool
     frames_size(found, from) <= room
 }
 
-// The end of the last frame; where there is none, the offset before which frames were looked for.
+// The end of the last frame; where there is none, the offset from which on frames were looked for.
 pub(crate) fn last_end(found: &[u32], from: usize) -> usize
     ensures { λ r. ⌜ r ≡ lastEnd from (now (found .entry)) ⌝ }
 {
