@@ -33,7 +33,7 @@ enum { ZONE_REQUEST = 0x15, ZONES = 0x16, LOGIN = 0x20, EVENT_REQUEST = 0x22, EV
 
 static const char *const REASONS[] = {
     "accepted", "too short", "wrong start or direction", "wrong length byte", "too long", "wrong checksum", "unknown type",
-    "length wrong for the type", "field outside its list", "too little room", "cost word above 65025", "total too large"};
+    "length wrong for the type", "field outside its list", "too little room", [GATEWAY_TOTAL] = "total too large"};
 
 static const char *const MESSAGES[] = {
     [0x05] = "acknowledge", [0x06] = "negative acknowledge", [0x0D] = "upload event log", [0x0E] = "log entry",
@@ -401,7 +401,7 @@ static void log_in(const struct line *line, struct stream *s, const char *code)
 /* The model thermostat, in an office, with nothing on its display. Every third message finds another cost. */
 static void play_thermostat(int fd)
 {
-    static const uint16_t costs[] = {34567, 9999, 9999, 12345, 65535, 65025};
+    static const uint16_t costs[] = {34567, 9999, 9999, 12345, 65400, 65025};
     uint8_t map[256] = {[COOL] = 130, [HEAT] = 116, [TEMPERATURE] = 125}, texts[THERMOSTAT_TEXTS] = {0};
     uint8_t bytes[OMNISTAT_MAX], reply[OMNISTAT_MAX] = {0};
     size_t len = 0;

@@ -3,8 +3,8 @@
    Every call that can refuse answers a uint64_t. Its low byte is the answer number: GATEWAY_ACCEPTED, or the number of a
    refusal. A refusal is the number and nothing else, and lent memory is then exactly as before. What an accepted call returns
    is packed above the low byte, in the order that the call's comment gives, the first field lowest; the numbers behind the
-   fields are their widths in bits. temperature_celsius, temperature_fahrenheit_tenths and setpoints_from_bytes refuse nothing
-   and answer their value itself.
+   fields are their widths in bits. cost_millionths refuses nothing, and its answer is packed in the same way.
+   temperature_celsius, temperature_fahrenheit_tenths and setpoints_from_bytes refuse nothing and answer their value itself.
 
    A buffer is passed as a pointer and a length; a null pointer with length 0 is an empty buffer. What a call writes to (out, a
    register map, a text store, a tally, a capture's state) overlaps nothing else that the same call is lent: neither what it
@@ -35,7 +35,7 @@ enum gateway_answer {
                                  text store; a capture's state that no pieces lead to, or not of 74 bytes */
     GATEWAY_ROOM = 9,         /* lent output too short (for a step: under 65 bytes; for a piece: for the lines of this call), a
                                  register map not of 256 bytes, or a text store not of 610 */
-    GATEWAY_COST_WORD = 10,   /* cost word above 65025 */
+    /* 10 is retired by change request K4 and not used again: it stood for a cost word above 65025; every word is a cost now */
     GATEWAY_TOTAL = 11        /* the total would pass 2^64 - 1 */
 };
 
@@ -218,12 +218,12 @@ struct tally {
     uint64_t total;
 };
 
-/* The value of a cost word (registers 170 and 171, high byte first). Refused: GATEWAY_COST_WORD.
-   Accepted: the value in millionths (56). 34567 is 4.567, so 4567000. */
+/* The value of a cost word (registers 170 and 171, high byte first). No word is refused: the answer number is 0.
+   Accepted: the value in millionths (56). 34567 is 4.567, so gateway_value(cost_millionths(34567)) is 4567000; of 65535 it is
+   5535. */
 uint64_t cost_millionths(uint16_t word);
 
-/* Adds a cost word to a tally. Refused, with the tally unchanged: GATEWAY_COST_WORD, then GATEWAY_TOTAL.
-   Accepted: nothing. */
+/* Adds a cost word, any number of 16 bits, to a tally. Refused, with the tally unchanged: GATEWAY_TOTAL. Accepted: nothing. */
 uint64_t tally_add(struct tally *t, uint16_t word);
 
 /* X-10 patterns: one byte of value 0 or 1 for each half cycle. House 0 to 15 stands for A to P, units are 1 to 16. */

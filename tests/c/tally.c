@@ -1,4 +1,4 @@
-/* Cost words and the tally, against the rules of document 01, "Cost". */
+/* Cost words and the tally, against the rules of document 01, "Cost", and document 02, K4. */
 #include "check.h"
 #include "gateway.h"
 
@@ -16,15 +16,12 @@ static uint64_t value_of(unsigned w)
 
 static uint64_t want_cost(unsigned w)
 {
-    return w > 65025 ? 10 : value_of(w) << 8;
+    return value_of(w) << 8;
 }
 
 /* The answer number, and the total afterwards. */
 static uint64_t want_add(uint64_t *total, unsigned w)
 {
-    if (w > 65025) {
-        return 10;
-    }
     wide sum = (wide)*total + value_of(w);
     if (sum > UINT64_MAX) {
         return 11;
@@ -52,14 +49,19 @@ static void paper_examples(void)
 {
     SAME(cost_millionths(34567), UINT64_C(4567000) << 8);
     SAME(cost_millionths(65025), UINT64_C(5025) << 8);
-    SAME(cost_millionths(65026), 10);
+    SAME(cost_millionths(65026), UINT64_C(5026) << 8);
+    SAME(cost_millionths(65400), UINT64_C(5400) << 8);
+    SAME(cost_millionths(65535), UINT64_C(5535) << 8);
     struct tally full = {UINT64_MAX};
     SAME(tally_add(&full, 0), 0);
     SAME(full.total, UINT64_MAX);
     SAME(tally_add(&full, 60001), 11);
     SAME(full.total, UINT64_MAX);
-    SAME(tally_add(&full, 65026), 10);
+    SAME(tally_add(&full, 65026), 11);
     SAME(full.total, UINT64_MAX);
+    struct tally small = {0};
+    SAME(tally_add(&small, 65400), 0);
+    SAME(small.total, 5400);
 }
 
 static void every_word(void)

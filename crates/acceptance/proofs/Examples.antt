@@ -18,7 +18,7 @@ use Rattle.thermostat.specs.Registers.{listed, readOnly, allowed}
 use Rattle.thermostat.specs.Map.{stored}
 use Rattle.thermostat.specs.Step.{allSettable, sentBy, after, step}
 use Rattle.thermostat.proofs.Laws.Map.{put-same}
-use Rattle.tally.specs.Cost.{cost, tooLarge, millionths, power}
+use Rattle.tally.specs.Cost.{millionths, power}
 use Rattle.x10.specs.Codes.{codeAt, indexOf, houseCode, unitCode}
 use Rattle.x10.specs.Pattern.{readKey, standard, read as readPattern, write as writePattern}
 use Rattle.x10.specs.Places.{spelled}
@@ -27,7 +27,7 @@ use Rattle.acceptance.specs.Examples.{Holds, Marked-examples}
 pub marked-examples : Marked-examples
 unfolding Holds crc feed readFrame readBody readMessage messageOf withData readPlain
     read readCounted carriesText frame total bytesOf asMessage runAllowed listed readOnly allowed stored allSettable sentBy after step
-    cost tooLarge millionths power readPattern writePattern readKey standard spelled codeAt indexOf houseCode unitCode
+    millionths power readPattern writePattern readKey standard spelled codeAt indexOf houseCode unitCode
 marked-examples map texts room whole store taken fits =
     let present : 59 < length map = omega arith in
     let roomy : ltb room 65 ≡ false = le-ltb room 65 fits in

@@ -1,5 +1,5 @@
 -- Document 01, "Examples; marked ones are proved": the marked cases, the setpoint ones as document 02, K2, has them, with the broadcast that
--- it names, as one statement about the definitions.
+-- it names, and the cost of 65026 as K4 has it, as one statement about the definitions.
 use Prim.Native.Nat.{ℕ, _≤_}
 use mathlib.Core.Path.{_≡_}
 use mathlib.Core.Bool.{true}
@@ -16,7 +16,7 @@ use Rattle.omnistat.specs.Omnistat as Omnistat
 use Rattle.thermostat.specs.Map.{content, put}
 use Rattle.thermostat.specs.Texts.{storeAllowed}
 use Rattle.thermostat.specs.Step.{step}
-use Rattle.tally.specs.Cost.{cost}
+use Rattle.tally.specs.Cost.{millionths}
 use Rattle.x10.specs.Pattern as X10
 
 -- every case of a list holds
@@ -47,8 +47,8 @@ marked map texts room =
     ∷ (content (put map 59 124) 59 ≡ 124)
     ∷ (step 1 map texts (0x00 ∷ 0x21 ∷ 0x3B ∷ 0x50 ∷ 0xAC ∷ []) room ≡ accepted (record { sent = []; map = map; texts = texts }))
     -- cost
-    ∷ (cost 34567 ≡ accepted 4567000)
-    ∷ (cost 65026 ≡ refused 10)
+    ∷ (millionths 34567 ≡ 4567000)
+    ∷ (millionths 65026 ≡ 5026)
     -- X-10
     ∷ (X10.write (X10.unit 0 1) ≡ accepted a1)
     ∷ (X10.read a1 ≡ accepted (X10.unit 0 1))

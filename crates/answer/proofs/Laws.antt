@@ -2,5 +2,6 @@
 pub mod Decided
 pub mod Output
 pub mod Packed
+pub mod Retired
 pub mod Table
 pub mod Test

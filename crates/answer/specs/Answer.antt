@@ -5,11 +5,11 @@ use mathlib.Core.List.{List, _++_}
 use lib.ListN.{length, drop}
 use lib.Dec.{ltb}
 use Rattle.answer.specs.declared.Refusal.{Refusal}
-use Rattle.answer.specs.declared.Refusal.the-variants.{Short, Start, Length, Long, Checksum, Unknown, TypeLength, Field, Room, CostWord, Total}
+use Rattle.answer.specs.declared.Refusal.the-variants.{Short, Start, Length, Long, Checksum, Unknown, TypeLength, Field, Room, Total}
 use Rattle.answer.specs.declared.Written.{Written}
 use Rattle.answer.specs.declared.Written.the-variants.{Count, Refused}
 
--- the number of each refusal, in the table's order
+-- the number of each refusal, in the table's order; 10, a cost word above 65025, is retired by document 02, K4, and not used again
 abbrev pub numberOf : Refusal → ℕ
 numberOf Short = 1
 numberOf Start = 2
@@ -20,7 +20,6 @@ numberOf Unknown = 6
 numberOf TypeLength = 7
 numberOf Field = 8
 numberOf Room = 9
-numberOf CostWord = 10
 numberOf Total = 11
 
 -- what a call answers: a refusal with its number, or what it accepts

@@ -5,7 +5,7 @@ ghost use Prim.Native.Nat.{_%_, _^_};
 ghost use Rattle.answer.specs.Answer.{numberOf, writtenOf, refused, accepted, onAccepted};
 ghost use Rattle.answer.specs.Packed.{packed, byte, word, field};
 
-// Document 01, "Answer numbers": a case for each number, in their order.
+// Document 01, "Answer numbers": a case for each number in use, in their order.
 pub enum Refusal {
     // 1: fewer bytes or places than the frame needs.
     Short,
@@ -25,8 +25,7 @@ pub enum Refusal {
     Field,
     // 9: lent output too short, or a register map not of 256 bytes.
     Room,
-    // 10: cost word above 65025.
-    CostWord,
+    // 10 is retired and not used again: it was given for a cost word above 65025, and document 02, K4, makes every word a cost.
     // 11: the total would pass 2^64 - 1.
     Total,
 }
@@ -51,7 +50,6 @@ pub fn number(r: Refusal) -> u64
         Refusal::TypeLength => 7,
         Refusal::Field => 8,
         Refusal::Room => 9,
-        Refusal::CostWord => 10,
         Refusal::Total => 11,
     }
 }

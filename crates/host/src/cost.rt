@@ -1,23 +1,19 @@
 // Document 01, "Cost": cost words and the tally for C.
 ghost use mathlib.Core.Path.{_≡_};
 ghost use mathlib.Core.List.{[], _∷_};
-ghost use Rattle.answer.specs.Answer.{onAccepted};
+ghost use Rattle.answer.specs.Answer.{accepted, onAccepted};
 ghost use Rattle.answer.specs.Packed.{packed, field};
-ghost use Rattle.tally.specs.Cost.{cost};
+ghost use Rattle.tally.specs.Cost.{millionths};
 ghost use Rattle.tally.specs.Total.{nextTotal, totalAfter, addedOf};
 use tally::Added;
-use tally::Cost;
 use tally::Tally;
 
-// The value of a cost word in millionths.
+// The value of a cost word in millionths: no word is refused.
 #[no_mangle]
 pub extern "C" fn cost_millionths(word: u16) -> u64
-    ensures { λ n. ⌜ n ≡ packed (onAccepted (λ v. field 56 v ∷ []) (cost word)) ⌝ }
+    ensures { λ n. ⌜ n ≡ packed (accepted (field 56 (millionths word) ∷ [])) ⌝ }
 {
-    match tally::convert(word) {
-        Cost::Millionths(v) => answer::pack_56_bits(v),
-        Cost::Refused(r) => answer::pack_refusal(r),
-    }
+    answer::pack_56_bits(tally::convert(word))
 }
 
 // The packed answer of an addition.

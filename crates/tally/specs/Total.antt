@@ -1,8 +1,8 @@
 -- Document 01, "Cost": the tally's total, and one word added to it.
 use Prim.Native.Nat.{ℕ, _+_, _-_, _^_}
 use lib.Dec.{ltb}
-use Rattle.answer.specs.Answer.{Outcome, refused, accepted, refuseIf, andThen, numberOf}
-use Rattle.tally.specs.Cost.{cost}
+use Rattle.answer.specs.Answer.{Outcome, refused, accepted, refuseIf, numberOf}
+use Rattle.tally.specs.Cost.{millionths}
 use Rattle.tally.specs.declared.Added.{Added}
 use Rattle.tally.specs.declared.Added.the-variants.{Total, Refused}
 
@@ -10,9 +10,9 @@ use Rattle.tally.specs.declared.Added.the-variants.{Total, Refused}
 unfoldable pub exactSum : ℕ → ℕ → Outcome ℕ
 exactSum total v = refuseIf (ltb (2 ^ 64 - 1) (total + v)) 11 (accepted (total + v))
 
--- a word added to a total: 10 is checked before 11
+-- a word added to a total
 unfoldable pub nextTotal : ℕ → ℕ → Outcome ℕ
-nextTotal total word = andThen (cost word) (exactSum total)
+nextTotal total word = exactSum total (millionths word)
 
 -- what the record holds after an answer: the new total; after a refusal the old one
 abbrev pub keptAfter : ℕ → Outcome ℕ → ℕ

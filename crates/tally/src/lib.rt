@@ -1,20 +1,11 @@
 // Document 01, "Cost": the value of a cost word, and the tally, a record that the caller lends.
 ghost use mathlib.Core.Path.{_≡_};
-ghost use Rattle.tally.specs.Cost.{cost, millionths, power, costOf};
+ghost use Rattle.tally.specs.Cost.{millionths, power};
 ghost use Rattle.tally.specs.Total.{nextTotal, keptAfter, totalAfter, addedOf};
 use answer::Refusal;
 
-// The largest cost word.
-const LARGEST_WORD: u16 = 65025;
-
 // The largest total.
 const LARGEST_TOTAL: u64 = 0xFFFF_FFFF_FFFF_FFFF;
-
-// The value of a cost word, or the refusal.
-pub enum Cost {
-    Millionths(u64),
-    Refused(Refusal),
-}
 
 // The tally: the exact sum of the accepted words, in millionths. It starts at 0.
 #[repr(C)]
@@ -44,38 +35,22 @@ fn power(decimals: u16) -> u64
     }
 }
 
-// The value of a cost word, where it is not refused.
-fn millionths(word: u16) -> u64
+// The conversion of a cost word: its value in millionths. Every word is a cost (document 02, K4).
+pub fn convert(word: u16) -> u64
     ensures { λ r. ⌜ r ≡ millionths word ⌝ }
 {
     ((word % 10000) as u64) * power(word / 10000)
 }
 
-// The conversion of a cost word.
-pub fn convert(word: u16) -> Cost
-    ensures { λ r. ⌜ costOf r ≡ cost word ⌝ }
-{
-    if LARGEST_WORD < word {
-        return Cost::Refused(Refusal::CostWord);
-    }
-    Cost::Millionths(millionths(word))
-}
-
-// A word added to a total: the word is checked before the sum.
+// A word added to a total.
 fn next_total(total: u64, word: u16) -> Added
     ensures { λ r. ⌜ addedOf r ≡ nextTotal total word ⌝ }
 {
-    match convert(word) {
-        Cost::Refused(r) => {
-            return Added::Refused(r);
-        }
-        Cost::Millionths(v) => {
-            if LARGEST_TOTAL - total < v {
-                return Added::Refused(Refusal::Total);
-            }
-            return Added::Total(total + v);
-        }
+    let v = convert(word);
+    if LARGEST_TOTAL - total < v {
+        return Added::Refused(Refusal::Total);
     }
+    Added::Total(total + v)
 }
 
 // What the record holds after an addition: the same total where it is refused.

@@ -14,8 +14,7 @@ const UNKNOWN: u8 = 6;
 const TYPE_LENGTH: u8 = 7;
 const FIELD: u8 = 8;
 const ROOM: u8 = 9;
-const COST_WORD: u8 = 10;
-const TOTAL: u8 = 11;
+const TOTAL: u8 = 11; // 10 is retired by document 02, K4
 
 fn require(condition: bool, number: u8) -> Answer<()> {
     if condition {
@@ -547,16 +546,14 @@ pub fn setpoint_byte(degrees: f32) -> Answer<u8> {
 }
 
 // Cost: the value of a word in millionths.
-pub fn cost(word: u16) -> Answer<u64> {
-    require(word <= 65025, COST_WORD)?;
+pub fn cost(word: u16) -> u64 {
     let decimals = u32::from(word / 10000);
-    Ok(u64::from(word % 10000) * 10u64.pow(6 - decimals))
+    u64::from(word % 10000) * 10u64.pow(6 - decimals)
 }
 
 // Cost: the total after a word.
 pub fn tally(total: u64, word: u16) -> Answer<u64> {
-    let cost = cost(word)?;
-    total.checked_add(cost).ok_or(TOTAL)
+    total.checked_add(cost(word)).ok_or(TOTAL)
 }
 
 // X-10 patterns: houses A to P, and units 1 to 16.

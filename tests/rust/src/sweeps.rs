@@ -77,9 +77,11 @@ fn examples(compare: &mut Compare) {
     let (first, kind, body) = (1, 2, Body::Data(&[]));
     compare.fact("group 1 poll", group == Ok(Omnistat { first, kind, body }));
     compare.read_at_thermostat(&[0x01, 0x02, 0x03]);
-    compare.fact("word 34567", paper::cost(34567) == Ok(4_567_000));
-    compare.fact("word 65025", paper::cost(65025) == Ok(5_025));
-    compare.fact("word 65026", paper::cost(65026) == Err(10));
+    compare.fact("word 34567", paper::cost(34567) == 4_567_000);
+    compare.fact("word 65025", paper::cost(65025) == 5_025);
+    compare.fact("word 65026", paper::cost(65026) == 5_026);
+    compare.fact("word 65400", paper::cost(65400) == 5_400);
+    compare.fact("word 65535", paper::cost(65535) == 5_535);
     compare.fact("a full tally", paper::tally(u64::MAX, 0) == Ok(u64::MAX));
     compare.fact(
         "past the full tally",
@@ -200,7 +202,7 @@ fn costs(compare: &mut Compare, random: &mut Random) {
     for word in 0..=65535 {
         compare.cost(word);
         sum = compare.tally_add(sum, word);
-        let cost = paper::cost(word).unwrap_or(1);
+        let cost = paper::cost(word);
         for total in [0, u64::MAX, u64::MAX - cost, random.next()] {
             compare.tally_add(total, word);
         }

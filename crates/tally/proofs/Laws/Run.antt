@@ -1,14 +1,14 @@
 -- Over any run of words from 0 the record holds, after each call, the exact sum of the words accepted so far. Assumes nothing.
 use mathlib.Core.Path.{_≡_, refl, sym, ap, _∙_}
 use mathlib.Core.List.{List, [], _∷_, _++_}
-use Prim.Native.Nat.{ℕ, _+_, _-_, _^_}
+use Prim.Native.Nat.{ℕ, _+_, _-_, _^_, _<_}
 use native.Mathlib.Nat.{add-zero, zero-add, add-assoc}
 use native.Mathlib.Omega.{arith}
 use Rattle.answer.specs.Answer.{Outcome, refused, accepted}
 use Rattle.tally.specs.Cost.{millionths, power}
 use Rattle.tally.specs.Total.{nextTotal, keptAfter, totalAfter}
 use Rattle.tally.specs.Run.{Call, Promised, totalFound, counted, sumAccepted}
-use Rattle.tally.proofs.Laws.Total.{accepted-exact}
+use Rattle.tally.proofs.Laws.Total.{accepted-exact, refused-past}
 
 -- one word: what the record gains is what the word counts, by its answer
 gains : (total word : ℕ) → totalAfter total word ≡ total + counted (nextTotal total word) word
@@ -51,6 +51,11 @@ answered-from total (b ∷ cs) c ds p = answered-from (b .total) cs c ds (p .2)
 pub answered-at-sum : (cs : List Call) (c : Call) (ds : List Call) → Promised 0 (cs ++ (c ∷ ds))
     → c .answer ≡ nextTotal (sumAccepted cs) (c .word)
 answered-at-sum cs c ds p = answered-from 0 cs c ds p ∙ ap (λ (n : ℕ). nextTotal n (c .word)) (exact-after-each cs (c ∷ ds) p)
+
+-- a word is refused with 11 alone, and only where the exact sum would pass 2^64 - 1
+pub refused-at-sum : (cs : List Call) (c : Call) (ds : List Call) → Promised 0 (cs ++ (c ∷ ds)) → (n : ℕ) → c .answer ≡ refused n
+    → (n ≡ 11) × (2 ^ 64 - 1 < sumAccepted cs + millionths (c .word))
+refused-at-sum cs c ds p n e = refused-past (sumAccepted cs) (c .word) n (sym (answered-at-sum cs c ds p) ∙ e)
 
 -- three wrong tallies that keep no such run, whatever total they answer: one adds the first word and then only nods; one wraps; one saturates
 abbrev taken-leaving : ℕ → ℕ → ℕ → Call
