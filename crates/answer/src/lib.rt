@@ -21,9 +21,9 @@ pub enum Refusal {
     Unknown,
     // 7: length wrong for the type.
     TypeLength,
-    // 8: a field outside its list.
+    // 8: a field outside its list, or a lent state or text store with wrong content.
     Field,
-    // 9: lent output too short, or a register map not of 256 bytes.
+    // 9: lent output too short, a register map not of 256 bytes, or a text store not of 610.
     Room,
     // 10 is retired and not used again: it was given for a cost word above 65025, and document 02, K4, makes every word a cost.
     // 11: the total would pass 2^64 - 1.
