@@ -33,7 +33,8 @@ enum { ZONE_REQUEST = 0x15, ZONES = 0x16, LOGIN = 0x20, EVENT_REQUEST = 0x22, EV
 
 static const char *const REASONS[] = {
     "accepted", "too short", "wrong start or direction", "wrong length byte", "too long", "wrong checksum", "unknown type",
-    "length wrong for the type", "field outside its list", "too little room", [GATEWAY_TOTAL] = "total too large"};
+    "length wrong for the type", "field outside its list", "too little room",
+    [GATEWAY_TOTAL] = "total too large"};    /* 10 is retired: no call answers it */
 
 static const char *const MESSAGES[] = {
     [0x05] = "acknowledge", [0x06] = "negative acknowledge", [0x0D] = "upload event log", [0x0E] = "log entry",

@@ -11,7 +11,7 @@ unfoldable pub exactSum : ℕ → ℕ → Outcome ℕ
 exactSum total v = refuseIf (ltb (2 ^ 64 - 1) (total + v)) 11 (accepted (total + v))
 
 -- a word added to a total
-unfoldable pub nextTotal : ℕ → ℕ → Outcome ℕ
+abbrev pub nextTotal : ℕ → ℕ → Outcome ℕ
 nextTotal total word = exactSum total (millionths word)
 
 -- what the record holds after an answer: the new total; after a refusal the old one

@@ -152,13 +152,13 @@ impl Compare {
         }
     }
 
-    /// A fact about document 01's own examples.
+    /// A fact about the papers' own examples.
     pub fn fact(&mut self, what: &str, holds: bool) {
         if holds {
             self.passed += 1;
         } else {
             self.failed += 1;
-            println!("document 01: {what}");
+            println!("the papers: {what}");
         }
     }
 

@@ -83,9 +83,10 @@ fn random_part(compare: &mut Compare, random: &mut Random, seconds: Option<u64>)
     }
 }
 
-/// Prints what was met of each call; gives how many answers were never met.
+/// Prints what was met of each call; gives how many of its answers were never met, and how many
+/// were met that are none of its own.
 fn table(compare: &Compare) -> usize {
-    let mut missing = 0;
+    let mut amiss = 0;
     println!(
         "{:<34} {:>11} {:>9}  refused",
         "call", "compared", "accepted"
@@ -97,16 +98,23 @@ fn table(compare: &Compare) -> usize {
             print!(" {number}:{}", counts[usize::from(number)]);
         }
         println!();
-        let met = |number: &u8| counts[usize::from(*number)] > 0;
-        for number in [0].iter().chain(*refusals).filter(|n| !met(n)) {
-            println!("{name}: answer {number} was never met");
-            missing += 1;
+        for (number, &count) in (0u8..).zip(counts) {
+            let its_own = number == 0 || refusals.contains(&number);
+            if its_own != (count > 0) {
+                let what = if its_own {
+                    "was never met"
+                } else {
+                    "is none of its own"
+                };
+                println!("{name}: answer {number} {what}");
+                amiss += 1;
+            }
         }
     }
-    missing
+    amiss
 }
 
-/// Inputs in order, then random ones; gives how many answers were never met.
+/// Inputs in order, then random ones; gives what the table gives.
 fn everything(compare: &mut Compare, seeds: Vec<u64>, seconds: Option<u64>) -> usize {
     sweeps::all(compare, &mut Random::new(seeds[0]));
     println!("in order: {} compared", compare.passed + compare.failed);
@@ -127,7 +135,7 @@ fn main() -> ExitCode {
     let start = Instant::now();
     let seeds = seeds(&arguments);
     let mut compare = Compare::new(seeds[0]);
-    let missing = if arguments.all_floats {
+    let amiss = if arguments.all_floats {
         sweeps::floats(&mut compare);
         0
     } else {
@@ -135,7 +143,7 @@ fn main() -> ExitCode {
     };
     println!("{:.1} seconds", start.elapsed().as_secs_f64());
     println!("{} passed, {} failed", compare.passed, compare.failed);
-    if compare.failed > 0 || missing > 0 {
+    if compare.failed > 0 || amiss > 0 {
         return ExitCode::FAILURE;
     }
     ExitCode::SUCCESS

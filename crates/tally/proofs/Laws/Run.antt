@@ -16,7 +16,7 @@ gains total word = by-answer (nextTotal total word) refl
   where
     by-answer : (o : Outcome ℕ) → nextTotal total word ≡ o → keptAfter total o ≡ total + counted o word
     by-answer (refused n) e = sym (add-zero total)
-    by-answer (accepted next) e = accepted-exact total word next e
+    by-answer (accepted next) e = accepted-exact total (millionths word) next e
 
 -- a run of calls from any total: the record gains the exact sum of the accepted words
 pub exact-from : (total : ℕ) (cs : List Call) → Promised total cs → totalFound total cs ≡ total + sumAccepted cs
@@ -55,7 +55,7 @@ answered-at-sum cs c ds p = answered-from 0 cs c ds p ∙ ap (λ (n : ℕ). next
 -- a word is refused with 11 alone, and only where the exact sum would pass 2^64 - 1
 pub refused-at-sum : (cs : List Call) (c : Call) (ds : List Call) → Promised 0 (cs ++ (c ∷ ds)) → (n : ℕ) → c .answer ≡ refused n
     → (n ≡ 11) × (2 ^ 64 - 1 < sumAccepted cs + millionths (c .word))
-refused-at-sum cs c ds p n e = refused-past (sumAccepted cs) (c .word) n (sym (answered-at-sum cs c ds p) ∙ e)
+refused-at-sum cs c ds p n e = refused-past (sumAccepted cs) (millionths (c .word)) n (sym (answered-at-sum cs c ds p) ∙ e)
 
 -- three wrong tallies that keep no such run, whatever total they answer: one adds the first word and then only nods; one wraps; one saturates
 abbrev taken-leaving : ℕ → ℕ → ℕ → Call
