@@ -21,7 +21,8 @@ pub enum Refusal {
     Unknown,
     // 7: length wrong for the type.
     TypeLength,
-    // 8: a field outside its list, or a lent state or text store with wrong content.
+    // 8: a field outside its list; a text too long or with a wrong character, also in a text store; a capture's state that no
+    // pieces lead to, or not of 74 bytes.
     Field,
     // 9: lent output too short, a register map not of 256 bytes, or a text store not of 610.
     Room,

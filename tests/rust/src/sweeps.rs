@@ -35,7 +35,7 @@ pub fn all(compare: &mut Compare, random: &mut Random) {
 /// Bytes, and the type and count of data bytes of the frame that they are.
 type FrameExample<'a> = (&'a [u8], paper::Answer<(u8, usize)>);
 
-/// The printed examples of document 01, and the published check value of the CRC.
+/// The printed examples of the papers, and the published check value of the CRC.
 fn examples(compare: &mut Compare) {
     compare.fact("check value of the CRC", paper::crc(b"123456789") == 0xBB3D);
     let frame = |bytes: &[u8]| paper::frame_read(bytes).map(|(kind, data)| (kind, data.len()));

@@ -5,7 +5,7 @@ use Prim.Native.Nat.{ℕ, _+_, _-_, _^_, _≤_, _<_}
 use lib.Dec.{ltb}
 use borrow.Author.Tests.{ltb-true}
 use Rattle.answer.specs.Answer.{refused, accepted, refuseIf}
-use Rattle.answer.proofs.Laws.Test.{below, not-below, not-accepted}
+use Rattle.answer.proofs.Laws.Test.{below, not-below, not-accepted, same, passed}
 use Rattle.tally.specs.Total.{exactSum}
 
 module _ (total v : ℕ) where
@@ -21,11 +21,7 @@ module _ (total v : ℕ) where
   -- what is accepted is the exact sum
   pub accepted-exact : (next : ℕ) → exactSum total v ≡ accepted next → next ≡ total + v
   unfolding exactSum
-  accepted-exact next e = by-test (ltb (2 ^ 64 - 1) (total + v)) e
-    where
-      by-test : (past : Bool) → refuseIf past 11 (accepted (total + v)) ≡ accepted next → next ≡ total + v
-      by-test true e = cc
-      by-test false e = cc
+  accepted-exact next e = sym (same (passed (ltb (2 ^ 64 - 1) (total + v)) 11 (accepted (total + v)) next e .1))
 
   -- what is refused is refused with 11 alone, and only where the sum would pass
   pub refused-past : (n : ℕ) → exactSum total v ≡ refused n → (n ≡ 11) × (2 ^ 64 - 1 < total + v)
