@@ -118,15 +118,21 @@ static size_t receive(int fd, int ms, uint8_t *to, size_t room)
 
 /* ---- the thermostat */
 
+struct reply {
+    uint8_t bytes[OMNISTAT_MAX];
+    size_t len;
+};
+
 /* Collects bytes until the reader has all it needs or the line is quiet. While a reply is too short there is room for more:
    none is longer than OMNISTAT_MAX. */
-static uint64_t read_reply(const struct line *line, uint8_t *reply, size_t *len)
+static uint64_t read_reply(const struct line *line, struct reply *reply)
 {
     uint64_t answer = GATEWAY_SHORT;
     size_t n = 1;
-    for (*len = 0; n > 0 && gateway_number(answer) == GATEWAY_SHORT; *len += n) {
-        n = receive(line->fd, *len == 0 ? line->reply_ms : line->gap_ms, reply + *len, OMNISTAT_MAX - *len);
-        answer = omnistat_read_at_host(reply, *len + n);
+    for (reply->len = 0; n > 0 && gateway_number(answer) == GATEWAY_SHORT; reply->len += n) {
+        n = receive(line->fd, reply->len == 0 ? line->reply_ms : line->gap_ms, reply->bytes + reply->len,
+                    sizeof reply->bytes - reply->len);
+        answer = omnistat_read_at_host(reply->bytes, reply->len + n);
     }
     return answer;
 }
@@ -141,14 +147,13 @@ static void await_quiet(const struct line *line)
 
 /* Sends a message, as a writer left and answered it, until its reply is accepted, TRIES times at most. Answers as
    omnistat_read_at_host does. */
-static uint64_t ask(const struct line *line, const uint8_t *message, uint64_t written, uint8_t *reply)
+static uint64_t ask(const struct line *line, const uint8_t *message, uint64_t written, struct reply *reply)
 {
     uint64_t answer = written;
     for (int i = 0; i < TRIES && accepted("message to thermostat", ADDRESS, written); i++) {
-        size_t got;
         send_all(line->fd, message, gateway_value(written));
-        answer = read_reply(line, reply, &got);
-        if (accepted("thermostat reply, bytes", got, answer) && gateway_byte(answer, 1) == ADDRESS) {
+        answer = read_reply(line, reply);
+        if (accepted("thermostat reply, bytes", reply->len, answer) && gateway_byte(answer, 1) == ADDRESS) {
             return answer;
         }
         if (gateway_number(answer) != GATEWAY_SHORT) {
@@ -159,7 +164,7 @@ static uint64_t ask(const struct line *line, const uint8_t *message, uint64_t wr
     return answer;
 }
 
-static uint64_t ask_thermostat(const struct line *line, uint8_t type, const uint8_t *data, size_t len, uint8_t *reply)
+static uint64_t ask_thermostat(const struct line *line, uint8_t type, const uint8_t *data, size_t len, struct reply *reply)
 {
     uint8_t message[OMNISTAT_MAX];
     uint64_t written = omnistat_write_to_thermostat(ADDRESS, type, data, len, message, sizeof message);
@@ -178,12 +183,12 @@ static void print_set(const char *what, uint64_t answer)
 /* Whether the thermostat gave the values of count registers from start on. */
 static bool poll_registers(const struct line *line, uint8_t start, uint8_t count, uint8_t *values)
 {
-    uint8_t reply[OMNISTAT_MAX];
-    uint64_t answer = ask_thermostat(line, POLL, (const uint8_t[]){start, count}, 2, reply);
+    struct reply reply;
+    uint64_t answer = ask_thermostat(line, POLL, (const uint8_t[]){start, count}, 2, &reply);
     bool given = gateway_number(answer) == GATEWAY_ACCEPTED && gateway_byte(answer, 0) == DATA &&
                  gateway_byte(answer, 2) == start && gateway_byte(answer, 3) == count;
     if (given) {
-        memcpy(values, reply + 3, count);
+        memcpy(values, reply.bytes + 3, count);
     } else {
         printf("  no values of registers %u to %u\n", (unsigned)start, start + count - 1u);
     }
@@ -202,26 +207,27 @@ static void show_setpoints(const struct line *line)
 
 static void set_setpoints(const struct line *line, struct setpoints pair)
 {
-    uint8_t reply[OMNISTAT_MAX];
+    struct reply reply;
     uint64_t bytes = setpoints_to_bytes(pair);
     printf("  set cool %.2f C, heat %.2f C\n", (double)pair.cool, (double)pair.heat);
     if (accepted("setpoints to thermostat", ADDRESS, bytes)) {
         const uint8_t data[] = {COOL, gateway_byte(bytes, 0), gateway_byte(bytes, 1)};
-        print_set("set", ask_thermostat(line, SET, data, sizeof data, reply));
+        print_set("set", ask_thermostat(line, SET, data, sizeof data, &reply));
     }
 }
 
 /* Shows a text on the thermostat's display, and reads back what it shows. */
 static void show_text(const struct line *line, const char *text)
 {
-    uint8_t message[OMNISTAT_MAX], reply[OMNISTAT_MAX];
+    uint8_t message[OMNISTAT_MAX];
+    struct reply reply;
     uint64_t written = omnistat_write_text_to_thermostat(ADDRESS, 0, ENERGY_TEXT, (const uint8_t *)text, strlen(text),
                                                          message, sizeof message);
     printf("  show \"%s\"\n", text);
-    print_set("text", ask(line, message, written, reply));
-    uint64_t answer = ask_thermostat(line, POLL, (const uint8_t[]){ENERGY_TEXT, 1}, 2, reply);
+    print_set("text", ask(line, message, written, &reply));
+    uint64_t answer = ask_thermostat(line, POLL, (const uint8_t[]){ENERGY_TEXT, 1}, 2, &reply);
     if (gateway_number(answer) == GATEWAY_ACCEPTED && gateway_byte(answer, 0) == DATA && gateway_byte(answer, 2) == ENERGY_TEXT) {
-        printf("  shown: \"%.*s\"\n", (int)gateway_byte(answer, 3), (const char *)reply + 3);
+        printf("  shown: \"%.*s\"\n", (int)gateway_byte(answer, 3), (const char *)reply.bytes + 3);
     } else {
         printf("  no text of register %u\n", (unsigned)ENERGY_TEXT);
     }
@@ -233,17 +239,18 @@ static void print_units(uint64_t millionths, const char *end)
     printf("%" PRIu64 ".%06" PRIu64 "%s", millionths / 1000000, millionths % 1000000, end);
 }
 
-/* A reading is added once, however often its poll had to be repeated. */
+/* A reading is added once, however often its poll had to be repeated. One that is taken has its word at bytes 3 and 4. */
 static void add_cost(const struct line *line, struct tally *tally)
 {
-    uint8_t values[2];
-    if (poll_registers(line, COST, sizeof values, values)) {
-        uint16_t word = (uint16_t)(values[0] << 8 | values[1]);
-        if (accepted("cost word", word, tally_add(tally, word))) {
-            printf("  cost word %u: ", (unsigned)word);
-            print_units(gateway_value(cost_millionths(word)), ", total ");
-            print_units(tally->total, "\n");
-        }
+    struct reply reply;
+    uint64_t answer = ask_thermostat(line, POLL, (const uint8_t[]){COST, 2}, 2, &reply);
+    if (gateway_number(answer) != GATEWAY_ACCEPTED) {
+        printf("  no meter reply\n");
+    } else if (accepted("meter reply, bytes", reply.len, meter_add(tally, reply.bytes, reply.len))) {
+        uint16_t word = (uint16_t)(reply.bytes[3] << 8 | reply.bytes[4]);
+        printf("  cost word %u: ", (unsigned)word);
+        print_units(gateway_value(cost_millionths(word)), ", total ");
+        print_units(tally->total, "\n");
     }
 }
 

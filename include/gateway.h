@@ -32,7 +32,8 @@ enum gateway_answer {
     GATEWAY_UNKNOWN = 6,      /* unknown type or key */
     GATEWAY_TYPE_LENGTH = 7,  /* length wrong for the type */
     GATEWAY_FIELD = 8,        /* a field outside its list; a text of more than 60 characters or with a wrong one, also in a
-                                 text store; a capture's state that no pieces lead to, or not of 74 bytes */
+                                 text store; a capture's state that no pieces lead to, or not of 74 bytes; a whole reply
+                                 that is no meter reply */
     GATEWAY_ROOM = 9,         /* lent output too short (for a step: under 65 bytes; for a piece: for the lines of this call), a
                                  register map not of 256 bytes, or a text store not of 610 */
     /* 10 is retired by change request K4 and not used again: it stood for a cost word above 65025; every word is a cost now */
@@ -213,7 +214,7 @@ uint64_t setpoints_to_bytes(struct setpoints pair);
 
 /* Cost */
 
-/* The tally: the exact sum of the accepted cost words, in millionths. It starts at 0. */
+/* The tally: the exact sum of the cost words of accepted meter replies, in millionths. It starts at 0. */
 struct tally {
     uint64_t total;
 };
@@ -223,8 +224,10 @@ struct tally {
    5535. */
 uint64_t cost_millionths(uint16_t word);
 
-/* Adds a cost word, any number of 16 bits, to a tally. Refused, with the tally unchanged: GATEWAY_TOTAL. Accepted: nothing. */
-uint64_t tally_add(struct tally *t, uint16_t word);
+/* Adds a meter reply to a tally: the cost word of data that starts at register 170 and has exactly two registers, from any
+   thermostat. Accepted: nothing. Refused, with the tally unchanged: as omnistat_read_at_host refuses the bytes, then 8 for any
+   other message or run, a text too, then 11. 81 32 AA 87 07 EB, the word 34567, adds 4567000. */
+uint64_t meter_add(struct tally *t, const uint8_t *bytes, size_t len);
 
 /* X-10 patterns: one byte of value 0 or 1 for each half cycle. House 0 to 15 stands for A to P, units are 1 to 16. */
 

@@ -1,4 +1,4 @@
-// Document 01, "Cost": cost words and the tally for C.
+// Document 01, "Cost", and document 02, K5: cost words, meter replies and the tally for C.
 ghost use mathlib.Core.Path.{_≡_};
 ghost use mathlib.Core.List.{[], _∷_};
 ghost use Rattle.answer.specs.Answer.{accepted, onAccepted};
@@ -26,11 +26,11 @@ fn pack_added(added: Added) -> u64
     }
 }
 
-// Adds a cost word to the lent tally.
+// Adds the cost word of a meter reply to the lent tally.
 #[no_mangle]
-pub extern "C" fn tally_add(t: &mut Tally, word: u16) -> u64
-    ensures { λ n. ⌜ (n ≡ packed (onAccepted (λ total. []) (nextTotal (now (t .entry) .total) word)))
-        × (now (t .exit) .total ≡ totalAfter (now (t .entry) .total) word) ⌝ }
+pub extern "C" fn meter_add(t: &mut Tally, bytes: &[u8]) -> u64
+    ensures { λ n. ⌜ (n ≡ packed (onAccepted (λ total. []) (nextTotal (now (t .entry) .total) (now (bytes .entry)))))
+        × (now (t .exit) .total ≡ totalAfter (now (t .entry) .total) (now (bytes .entry))) ⌝ }
 {
-    pack_added(tally::add(t, word))
+    pack_added(tally::add_reply(t, bytes))
 }

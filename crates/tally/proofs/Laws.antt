@@ -1,4 +1,5 @@
 -- The laws, a file for each subject.
 pub mod Cost
+pub mod Reading
 pub mod Total
 pub mod Run

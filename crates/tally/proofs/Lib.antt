@@ -1,2 +1,2 @@
--- Laws on the cost word, the total and a run of words.
+-- Laws on the cost word, the meter reply, the total and a run of meter calls.
 pub mod Laws

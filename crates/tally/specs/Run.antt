@@ -1,33 +1,35 @@
--- Document 01, "Cost": a run of words, one call after the other on one record, as the caller sees it.
+-- Document 01, "Cost", and document 02, K5: a run of meter calls, one after the other on one record, as the caller sees it.
 use Prim.Native.Nat.{ℕ, _+_}
 use mathlib.Core.Path.{_≡_}
 use mathlib.Core.List.{List, [], _∷_}
 use Rattle.answer.specs.Answer.{Outcome, refused, accepted}
 use Rattle.tally.specs.Cost.{millionths}
+use Rattle.tally.specs.Reading.{reading}
 use Rattle.tally.specs.Total.{nextTotal, totalAfter}
 
--- one call: the word passed, the answer, and the total found in the record afterwards
+-- one call: the bytes passed, of any kind, the answer, and the total found in the record afterwards
 pub record Call : Type 0 where
-  pub word : ℕ
+  pub reply : List ℕ
   pub answer : Outcome ℕ
   pub total : ℕ
 
 -- calls one after the other, each as promised at the total that the one before left
 unfoldable pub Promised : ℕ → List Call → Type 0
 Promised total [] = Unit {0}
-Promised total (c ∷ cs) = (c .answer ≡ nextTotal total (c .word)) × (c .total ≡ totalAfter total (c .word)) × Promised (c .total) cs
+Promised total (c ∷ cs) = (c .answer ≡ nextTotal total (c .reply)) × (c .total ≡ totalAfter total (c .reply)) × Promised (c .total) cs
 
 -- the total found after the last call
 unfoldable pub totalFound : ℕ → List Call → ℕ
 totalFound total [] = total
 totalFound total (c ∷ cs) = totalFound (c .total) cs
 
--- what a call's word counts: its value where the answer is that it was taken, else nothing
-abbrev pub counted : Outcome ℕ → ℕ → ℕ
-counted (refused n) word = 0
-counted (accepted next) word = millionths word
+-- what a call counts, by its answer and the reading of its reply: the word's value where the answer is that it was taken, else nothing
+abbrev pub counted : Outcome ℕ → Outcome ℕ → ℕ
+counted (refused n) read = 0
+counted (accepted next) (refused n) = 0
+counted (accepted next) (accepted word) = millionths word
 
 -- the sum of the accepted words, as integers
 unfoldable pub sumAccepted : List Call → ℕ
 sumAccepted [] = 0
-sumAccepted (c ∷ cs) = counted (c .answer) (c .word) + sumAccepted cs
+sumAccepted (c ∷ cs) = counted (c .answer) (reading (c .reply)) + sumAccepted cs

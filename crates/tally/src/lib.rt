@@ -1,8 +1,12 @@
-// Document 01, "Cost": the value of a cost word, and the tally, a record that the caller lends.
+// Document 01, "Cost", and document 02, K5: the value of a cost word, and the tally, a record that the caller lends and to which meter
+// replies are added.
 ghost use mathlib.Core.Path.{_≡_};
 ghost use Rattle.tally.specs.Cost.{millionths, power};
-ghost use Rattle.tally.specs.Total.{nextTotal, keptAfter, totalAfter, addedOf};
+ghost use Rattle.tally.specs.Total.{exactSum, nextTotal, keptAfter, totalAfter, addedOf};
+use crate::reading::Reading;
 use answer::Refusal;
+
+mod reading; // a meter reply, and the cost word that it carries
 
 // The largest total.
 const LARGEST_TOTAL: u64 = 0xFFFF_FFFF_FFFF_FFFF;
@@ -13,7 +17,7 @@ pub struct Tally {
     pub total: u64,
 }
 
-// What adding a word to the tally answers: the new total, or the refusal.
+// What adding a meter reply to the tally answers: the new total, or the refusal.
 pub enum Added {
     Total(u64),
     Refused(Refusal),
@@ -42,15 +46,24 @@ pub fn convert(word: u16) -> u64
     ((word % 10000) as u64) * power(word / 10000)
 }
 
-// A word added to a total.
-fn next_total(total: u64, word: u16) -> Added
-    ensures { λ r. ⌜ addedOf r ≡ nextTotal total word ⌝ }
+// A value added to a total.
+fn exact_sum(total: u64, value: u64) -> Added
+    ensures { λ r. ⌜ addedOf r ≡ exactSum total value ⌝ }
 {
-    let v = convert(word);
-    if LARGEST_TOTAL - total < v {
+    if LARGEST_TOTAL - total < value {
         return Added::Refused(Refusal::Total);
     }
-    Added::Total(total + v)
+    Added::Total(total + value)
+}
+
+// The word of a meter reply added to a total.
+fn next_total(total: u64, reply: &[u8]) -> Added
+    ensures { λ r. ⌜ addedOf r ≡ nextTotal total (now (reply .entry)) ⌝ }
+{
+    match crate::reading::read(reply) {
+        Reading::Refused(r) => Added::Refused(r),
+        Reading::Word(word) => exact_sum(total, convert(word)),
+    }
 }
 
 // What the record holds after an addition: the same total where it is refused.
@@ -63,13 +76,13 @@ fn kept(total: u64, added: Added) -> u64
     }
 }
 
-// Adds a word to the tally. A total is stored in any case: the same one where the word is refused.
-pub fn add(t: &mut Tally, word: u16) -> Added
-    ensures { λ r. ⌜ (addedOf r ≡ nextTotal (now (t .entry) .total) word)
-        × (now (t .exit) .total ≡ totalAfter (now (t .entry) .total) word) ⌝ }
+// Adds the word of a meter reply to the tally. A total is stored in any case: the same one where the reply is refused.
+pub fn add_reply(t: &mut Tally, reply: &[u8]) -> Added
+    ensures { λ r. ⌜ (addedOf r ≡ nextTotal (now (t .entry) .total) (now (reply .entry)))
+        × (now (t .exit) .total ≡ totalAfter (now (t .entry) .total) (now (reply .entry))) ⌝ }
 {
     let total = t.total;
-    let added = next_total(total, word);
+    let added = next_total(total, reply);
     t.total = kept(total, added);
     added
 }

@@ -1,10 +1,10 @@
 // Runs the vectors on standard input, a line for each: the name of a call, then what it is given, in hex. Prints each line with the
 // call's answer behind it; behind `cut` stand the three calls of a capture in two pieces, each with its own. A line that starts with no
-// such name, as a comment, is printed as it is. The calls are those of the C interface, whose answers are packed numbers, but for the
-// tally, which is called in its crate.
+// such name, as a comment, is printed as it is. The calls are those of the C interface, whose answers are packed numbers, but for
+// meter replies, which are added in the tally's crate.
 mod captures; // the listing, of a whole capture and in pieces
 mod input; // lines, names and digits
-mod model; // the model thermostat, temperatures, cost words and the tally
+mod model; // the model thermostat, temperatures, cost words and meter replies
 mod omnilink; // Omni-Link frames and messages, read
 mod omnistat2; // Omnistat2 messages, read
 mod output; // texts, numbers, bytes and answers
@@ -42,7 +42,7 @@ fn named(line: &[u8], names: &[u8]) -> u64 {
 fn call_of(line: &[u8]) -> u64 {
     named(
         line,
-        b"read places\nread frame\nread message\nat thermostat\nat host\nstep\ntemperatures\ncost\ntally\nlisting\nwrite unit\nwrite function\nwrite extended\nwrite frame\nwrite message\nto thermostat\nto host\ntext to thermostat\ntext to host\ncut\n",
+        b"read places\nread frame\nread message\nat thermostat\nat host\nstep\ntemperatures\ncost\nmeter\nlisting\nwrite unit\nwrite function\nwrite extended\nwrite frame\nwrite message\nto thermostat\nto host\ntext to thermostat\ntext to host\ncut\n",
     )
 }
 
@@ -67,7 +67,7 @@ fn answer_call(call: u64, bytes: &[u8]) {
         5 => model::step(bytes),
         6 => model::temperatures(),
         7 => model::cost(bytes),
-        8 => model::tally(bytes),
+        8 => model::meter(bytes),
         9 => captures::list(bytes),
         10..=12 => patterns::write(call, bytes),
         13..=18 => writers::write(call, bytes),

@@ -1,4 +1,4 @@
-// The model thermostat, temperatures, cost words and the tally.
+// The model thermostat, temperatures, cost words and meter replies.
 use crate::input::byte;
 use crate::input::first;
 use crate::input::long;
@@ -159,12 +159,12 @@ pub(crate) fn cost(bytes: &[u8]) {
     show(b" millionths *1", r, bytes);
 }
 
-// The answer of a tally with this total to a word.
-fn tallied(total: u64, word: u16) -> Added
-    ensures { λ r. ⌜ addedOf r ≡ nextTotal total word ⌝ }
+// The answer of a tally with this total to a meter reply.
+fn tallied(total: u64, reply: &[u8]) -> Added
+    ensures { λ r. ⌜ addedOf r ≡ nextTotal total (now (reply .entry)) ⌝ }
 {
     let mut t = Tally { total };
-    tally::add(&mut t, word)
+    tally::add_reply(&mut t, reply)
 }
 
 fn added(a: Added) {
@@ -174,8 +174,7 @@ fn added(a: Added) {
     }
 }
 
-// A total of eight bytes, then a cost word.
-pub(crate) fn tally(bytes: &[u8]) {
-    let word = cost_word(rest(bytes, 8));
-    added(tallied(long(first(bytes, 8)), word));
+// A total of eight bytes, then a meter reply.
+pub(crate) fn meter(bytes: &[u8]) {
+    added(tallied(long(first(bytes, 8)), rest(bytes, 8)));
 }

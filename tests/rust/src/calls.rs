@@ -95,7 +95,7 @@ mod gateway {
         pub fn setpoints_from_bytes(cool: u64, heat: u64) -> Setpoints;
         pub fn setpoints_to_bytes(pair: Setpoints) -> u64;
         pub fn cost_millionths(word: u64) -> u64;
-        pub fn tally_add(tally: *mut Tally, word: u64) -> u64;
+        pub fn meter_add(tally: *mut Tally, bytes: *const u8, len: usize) -> u64;
         pub fn x10_read(places: *const u8, len: usize) -> u64;
         pub fn x10_write_unit(house: u64, unit: u64, out: *mut u8, room: usize) -> u64;
         pub fn x10_write_function(house: u64, code: u64, out: *mut u8, room: usize) -> u64;
@@ -286,8 +286,8 @@ pub fn cost_millionths(w: u16) -> u64 {
 }
 
 /// What is lent is the 8 bytes of a tally, aligned.
-pub fn tally_add(tally: Lent, w: u16) -> u64 {
-    unsafe { gateway::tally_add(tally.pointer.cast::<Tally>(), word(w)) }
+pub fn meter_add(tally: Lent, b: Lent) -> u64 {
+    unsafe { gateway::meter_add(tally.pointer.cast::<Tally>(), b.pointer, b.len) }
 }
 
 pub fn x10_read(places: Lent) -> u64 {

@@ -28,7 +28,7 @@ pub enum Call {
     SetpointsFromBytes,
     SetpointsToBytes,
     Cost,
-    TallyAdd,
+    MeterAdd,
     X10Read,
     X10WriteUnit,
     X10WriteFunction,
@@ -64,7 +64,7 @@ pub const CALLS: [(&str, &[u8]); 29] = [
     ("setpoints_from_bytes", &[]),
     ("setpoints_to_bytes", &[8]),
     ("cost_millionths", &[]),
-    ("tally_add", &[11]),
+    ("meter_add", &[1, 2, 4, 5, 6, 7, 8, 11]),
     ("x10_read", &[1, 2, 4, 5, 6, 8]),
     ("x10_write_unit", &[8, 9]),
     ("x10_write_function", &[6, 8, 9]),
@@ -454,22 +454,25 @@ impl Compare {
         });
     }
 
-    /// Adds a word; gives the total that the papers ask for.
-    pub fn tally_add(&mut self, total: u64, word: u16) -> u64 {
-        let lent = self.map.lend_aligned(&total.to_ne_bytes(), 8);
+    /// Adds a reply; gives the total that the papers ask for.
+    pub fn meter_add(&mut self, total: u64, bytes: &[u8]) -> u64 {
+        let reply = self.input.lend(bytes);
+        let tally = self.map.lend_aligned(&total.to_ne_bytes(), 8);
         guard::announce(
-            CALLS[Call::TallyAdd as usize].0,
-            lent,
+            CALLS[Call::MeterAdd as usize].0,
+            reply,
             self.passed,
             self.failed,
         );
-        let got = calls::tally_add(lent, word);
-        let right = paper::tally(total, word);
+        let got = calls::meter_add(tally, reply);
+        let right = paper::meter(total, bytes);
         let after = right.unwrap_or(total);
         let right = valued(right.map(|_| 0));
-        let kept = self.map.holds(lent, &after.to_ne_bytes(), &[]);
-        self.judge(Call::TallyAdd, right, got == right && kept, || {
-            format!("total {total}, word {word}, expected {right} and {after}, got {got}, total right {kept}")
+        let kept =
+            self.map.holds(tally, &after.to_ne_bytes(), &[]) && self.input.holds(reply, bytes, &[]);
+        self.judge(Call::MeterAdd, right, got == right && kept, || {
+            let reply = hex(bytes);
+            format!("total {total}, reply {reply}, expected {right} and {after}, got {got}, memory right {kept}")
         });
         after
     }

@@ -424,6 +424,7 @@ pub fn round(compare: &mut Compare, random: &mut Random, state: &mut State) {
     texts(compare, random);
     thermostat(compare, random, state);
     numbers(compare, random);
+    meter(compare, random);
     x10(compare, random);
 }
 
@@ -532,10 +533,21 @@ fn numbers(compare: &mut Compare, random: &mut Random) {
     compare.temperature(random.byte());
     let word = random.next() as u16;
     compare.cost(word);
+}
+
+/// Replies to a poll of the meter, and any other, on one tally, which lives on.
+fn meter(compare: &mut Compare, random: &mut Random) {
     let near = u64::MAX - random.next() % 10_000_000_000;
-    let total = random.pick(&[0, near, u64::MAX]);
-    let total = compare.tally_add(total, word);
-    compare.tally_add(total, random.next() as u16);
+    let mut total = random.pick(&[0, near, u64::MAX]);
+    for _ in 0..3 {
+        let number = random.byte_from(1, 127);
+        let mut bytes = paper::meter_reply(number, random.next() as u16);
+        total = compare.meter_add(total, &bytes);
+        damage(random, &mut bytes);
+        total = compare.meter_add(total, &bytes);
+        let first = address(random, number + 0x80);
+        total = compare.meter_add(total, &reply_bytes(random, first));
+    }
 }
 
 fn x10(compare: &mut Compare, random: &mut Random) {

@@ -551,9 +551,21 @@ pub fn cost(word: u16) -> u64 {
     u64::from(word % 10000) * 10u64.pow(6 - decimals)
 }
 
-// Cost: the total after a word.
-pub fn tally(total: u64, word: u16) -> Answer<u64> {
+// K5: the total after a reply of whichever thermostat. Data of two registers from 170 on has the word; another message or run is 8.
+pub fn meter(total: u64, bytes: &[u8]) -> Answer<u64> {
+    let reply = read_at_host(bytes)?;
+    let Body::Data(data) = reply.body else {
+        return Err(FIELD);
+    };
+    require(reply.kind == 2 && data.len() == 3 && data[0] == 170, FIELD)?;
+    let word = 256 * u16::from(data[1]) + u16::from(data[2]);
     total.checked_add(cost(word)).ok_or(TOTAL)
+}
+
+// K5: the reply of a thermostat to a poll of registers 170 and 171.
+pub fn meter_reply(number: u8, word: u16) -> Vec<u8> {
+    let (high, low) = ((word / 256) as u8, (word % 256) as u8);
+    omnistat(number + 0x80, 2, &[170, high, low])
 }
 
 // X-10 patterns: houses A to P, and units 1 to 16.

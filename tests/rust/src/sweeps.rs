@@ -12,6 +12,7 @@ pub fn all(compare: &mut Compare, random: &mut Random) {
     examples(compare);
     temperatures(compare, random);
     costs(compare, random);
+    meters(compare, random);
     frames(compare, random);
     messages(compare, random);
     fields(compare);
@@ -82,11 +83,7 @@ fn examples(compare: &mut Compare) {
     compare.fact("word 65026", paper::cost(65026) == 5_026);
     compare.fact("word 65400", paper::cost(65400) == 5_400);
     compare.fact("word 65535", paper::cost(65535) == 5_535);
-    compare.fact("a full tally", paper::tally(u64::MAX, 0) == Ok(u64::MAX));
-    compare.fact(
-        "past the full tally",
-        paper::tally(u64::MAX, 60001) == Err(11),
-    );
+    meter_examples(compare);
     let places: Vec<u8> = "1110011010010110100101".bytes().map(|c| c - b'0').collect();
     let unit = paper::x10_write_unit(0, 1, 22);
     compare.fact("house A, unit 1", unit == Ok(places));
@@ -100,6 +97,28 @@ fn examples(compare: &mut Compare) {
         paper::listing(&[], 6) == Ok(b"end 0\n".to_vec()),
     );
     text_examples(compare);
+}
+
+/// The full tally of document 01, and what K5 takes and does not.
+fn meter_examples(compare: &mut Compare) {
+    let examples: [(u64, &[u8], paper::Answer<u64>); 8] = [
+        (3, &[0x81, 0x32, 0xAA, 0x87, 0x07, 0xEB], Ok(4_567_003)),
+        (
+            u64::MAX,
+            &[0xFF, 0x32, 0xAA, 0x00, 0x00, 0xDB],
+            Ok(u64::MAX),
+        ),
+        (u64::MAX, &[0x81, 0x32, 0xAA, 0xEA, 0x61, 0xA8], Err(11)),
+        (u64::MAX, &[0x81, 0x32, 0xAA, 0xEA, 0x61, 0xA9], Err(5)),
+        (u64::MAX, &[0x81, 0x22, 0xAA, 0x87, 0xD4], Err(8)),
+        (0, &[0x81, 0x32, 0xA9, 0x87, 0x07, 0xEA], Err(8)),
+        (0, &[0x81, 0x00, 0x81], Err(8)),
+        (0, &[0x81, 0x02, 0xAC, 0x03, 0x32], Err(8)),
+    ];
+    for (total, bytes, after) in examples {
+        compare.fact("a meter reply", paper::meter(total, bytes) == after);
+        compare.meter_add(total, bytes);
+    }
 }
 
 /// Document 004's text, whose printed sum 34 is a slip for D4, and the bounds that K1 names.
@@ -201,12 +220,55 @@ fn costs(compare: &mut Compare, random: &mut Random) {
     let mut sum = 0;
     for word in 0..=65535 {
         compare.cost(word);
-        sum = compare.tally_add(sum, word);
+        let reply = paper::meter_reply((1 + word % 127) as u8, word);
+        sum = compare.meter_add(sum, &reply);
         let cost = paper::cost(word);
         for total in [0, u64::MAX, u64::MAX - cost, random.next()] {
-            compare.tally_add(total, word);
+            compare.meter_add(total, &reply);
         }
-        compare.tally_add((u64::MAX - cost).saturating_add(1), word);
+        compare.meter_add((u64::MAX - cost).saturating_add(1), &reply);
+    }
+}
+
+/// Every first byte, every start register with every count, every type with every length, every byte damaged, every cut, and
+/// texts; each at an empty tally, at a full one, and where the word just fits or does not.
+fn meters(compare: &mut Compare, random: &mut Random) {
+    let mut at_edges = |compare: &mut Compare, bytes: &[u8]| {
+        let edge = u64::MAX - 9_999_000_000;
+        for total in [0, u64::MAX, edge, edge + 1, random.next()] {
+            compare.meter_add(total, bytes);
+        }
+    };
+    let values = [0x27, 0x0F, 0x87, 0x07, 1, 2, 3, 4, 5, 6, 7, 8, 9, 10];
+    for first in 0..=255 {
+        at_edges(compare, &paper::omnistat(first, 2, &[170, 0x27, 0x0F]));
+    }
+    for start in 0..=255 {
+        for count in 0..=values.len() {
+            let data: Vec<u8> = [start].iter().chain(&values[..count]).copied().collect();
+            at_edges(compare, &paper::omnistat(0x81, 2, &data));
+        }
+        let text = paper::omnistat_text(0x81, 2, 3, start, b"22");
+        at_edges(compare, &text);
+    }
+    for kind in 0..=15 {
+        for length in 0..=15 {
+            at_edges(compare, &paper::omnistat(0x8A, kind, &[170; 15][..length]));
+        }
+    }
+    let mut bytes = paper::meter_reply(127, 34567);
+    for at in 0..bytes.len() {
+        let right = bytes[at];
+        for damaged in 0..=255 {
+            bytes[at] = damaged;
+            at_edges(compare, &bytes);
+        }
+        bytes[at] = right;
+        at_edges(compare, &bytes[..at]);
+    }
+    for behind in [0, 3, 0xEB] {
+        bytes.push(behind);
+        at_edges(compare, &bytes);
     }
 }
 
@@ -772,6 +834,9 @@ fn long_inputs(compare: &mut Compare) {
     compare.answer(Call::Step, got, 4);
     let b = long.lend(&paper::omnistat(0x81, 0, &[]));
     compare.answer(Call::ReadAtHost, calls::omnistat_read_at_host(b), 4);
+    let tally = Region::new(1, 0).lend_aligned(&[0; 8], 8);
+    let b = long.lend(&paper::meter_reply(1, 34567));
+    compare.answer(Call::MeterAdd, calls::meter_add(tally, b), 4);
     let b = long.lend(&paper::omnistat_text(0x01, 1, 0, 175, b"low"));
     let got = calls::omnistat_read_at_thermostat(b);
     compare.answer(Call::ReadAtThermostat, got, 4);

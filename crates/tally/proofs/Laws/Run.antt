@@ -1,20 +1,26 @@
--- Over any run of words from 0 the record holds, after each call, the exact sum of the words accepted so far. Assumes nothing.
+-- Over any run of meter calls from 0 the record holds, after each call, the exact sum of the words accepted so far. Assumes nothing.
 use mathlib.Core.Path.{_≡_, refl, sym, ap, _∙_}
 use mathlib.Core.List.{List, [], _∷_, _++_}
-use Prim.Native.Nat.{ℕ, _+_, _-_, _^_, _<_}
+use mathlib.Core.Logic.{_⊎_, inl, inr}
+use Prim.Native.Nat.{ℕ, _+_, _-_, _^_, _<_, _≤_}
 use native.Mathlib.Nat.{add-zero, zero-add, add-assoc}
 use native.Mathlib.Omega.{arith}
-use Rattle.answer.specs.Answer.{Outcome, refused, accepted}
-use Rattle.tally.specs.Cost.{millionths, power}
-use Rattle.tally.specs.Total.{nextTotal, keptAfter, totalAfter}
+use lib.Dec.{lit≤}
+use Rattle.answer.specs.Answer.{Outcome, refused, accepted, andThen}
+use Rattle.answer.proofs.Laws.Test.{then-accepted}
+use Rattle.tally.specs.Cost.{wordOf, millionths, power}
+use Rattle.tally.specs.Reading.{reading, meterReply, Carries}
+use Rattle.tally.specs.Total.{plusWord, nextTotal, keptAfter, totalAfter}
 use Rattle.tally.specs.Run.{Call, Promised, totalFound, counted, sumAccepted}
-use Rattle.tally.proofs.Laws.Total.{accepted-exact, refused-past}
+use Rattle.tally.proofs.Laws.Reading.{carried, carries-read, meter-reply-read}
+use Rattle.tally.proofs.Laws.Total.{next-when, taken, accepted-exact, refused-past}
 
--- one word: what the record gains is what the word counts, by its answer
-gains : (total word : ℕ) → totalAfter total word ≡ total + counted (nextTotal total word) word
-gains total word = by-answer (nextTotal total word) refl
+-- one reply: what the record gains is what the reply counts, by its answer
+gains : (total : ℕ) (read : Outcome ℕ) → keptAfter total (andThen read (plusWord total)) ≡ total + counted (andThen read (plusWord total)) read
+gains total (refused n) = sym (add-zero total)
+gains total (accepted word) = by-answer (plusWord total word) refl
   where
-    by-answer : (o : Outcome ℕ) → nextTotal total word ≡ o → keptAfter total o ≡ total + counted o word
+    by-answer : (o : Outcome ℕ) → plusWord total word ≡ o → keptAfter total o ≡ total + counted o (accepted word)
     by-answer (refused n) e = sym (add-zero total)
     by-answer (accepted next) e = accepted-exact total (millionths word) next e
 
@@ -23,9 +29,10 @@ pub exact-from : (total : ℕ) (cs : List Call) → Promised total cs → totalF
 unfolding Promised totalFound sumAccepted
 exact-from total [] p = sym (add-zero total)
 exact-from total (c ∷ cs) p =
+    let read = reading (c .reply) in
     exact-from (c .total) cs (p .2)
-    ∙ ap (λ (n : ℕ). n + sumAccepted cs) (p .1 ∙ gains total (c .word) ∙ ap (λ (a : Outcome ℕ). total + counted a (c .word)) (sym (p .0)))
-    ∙ add-assoc total (counted (c .answer) (c .word)) (sumAccepted cs)
+    ∙ ap (λ (n : ℕ). n + sumAccepted cs) (p .1 ∙ gains total read ∙ ap (λ (a : Outcome ℕ). total + counted a read) (sym (p .0)))
+    ∙ add-assoc total (counted (c .answer) read) (sumAccepted cs)
 
 -- from 0: the record holds the exact sum of the accepted words
 pub exact : (cs : List Call) → Promised 0 cs → totalFound 0 cs ≡ sumAccepted cs
@@ -41,34 +48,77 @@ first-calls total (c ∷ cs) ds p = (p .0, p .1, first-calls (c .total) cs ds (p
 pub exact-after-each : (cs ds : List Call) → Promised 0 (cs ++ ds) → totalFound 0 cs ≡ sumAccepted cs
 exact-after-each cs ds p = exact cs (first-calls 0 cs ds p)
 
--- each answer is the one at the exact sum of the words accepted before
-pub answered-from : (total : ℕ) (cs : List Call) (c : Call) (ds : List Call) → Promised total (cs ++ (c ∷ ds))
-    → c .answer ≡ nextTotal (totalFound total cs) (c .word)
+-- each call answers and leaves what is promised at the total found before it
+pub promised-from : (total : ℕ) (cs : List Call) (c : Call) (ds : List Call) → Promised total (cs ++ (c ∷ ds))
+    → (c .answer ≡ nextTotal (totalFound total cs) (c .reply)) × (c .total ≡ totalAfter (totalFound total cs) (c .reply))
 unfolding Promised totalFound
-answered-from total [] c ds p = p .0
-answered-from total (b ∷ cs) c ds p = answered-from (b .total) cs c ds (p .2)
+promised-from total [] c ds p = (p .0, p .1)
+promised-from total (b ∷ cs) c ds p = promised-from (b .total) cs c ds (p .2)
 
-pub answered-at-sum : (cs : List Call) (c : Call) (ds : List Call) → Promised 0 (cs ++ (c ∷ ds))
-    → c .answer ≡ nextTotal (sumAccepted cs) (c .word)
-answered-at-sum cs c ds p = answered-from 0 cs c ds p ∙ ap (λ (n : ℕ). nextTotal n (c .word)) (exact-after-each cs (c ∷ ds) p)
+module _ (cs : List Call) (c : Call) (ds : List Call) (p : Promised 0 (cs ++ (c ∷ ds))) where
+  -- the total found before a call
+  abbrev before : ℕ
+  before = totalFound 0 cs
 
--- a word is refused with 11 alone, and only where the exact sum would pass 2^64 - 1
-pub refused-at-sum : (cs : List Call) (c : Call) (ds : List Call) → Promised 0 (cs ++ (c ∷ ds)) → (n : ℕ) → c .answer ≡ refused n
-    → (n ≡ 11) × (2 ^ 64 - 1 < sumAccepted cs + millionths (c .word))
-refused-at-sum cs c ds p n e = refused-past (sumAccepted cs) (millionths (c .word)) n (sym (answered-at-sum cs c ds p) ∙ e)
+  -- the answer is the one at the exact sum of the words accepted before
+  pub answered-at-sum : c .answer ≡ nextTotal (sumAccepted cs) (c .reply)
+  answered-at-sum = promised-from 0 cs c ds p .0 ∙ ap (λ (n : ℕ). nextTotal n (c .reply)) (exact-after-each cs (c ∷ ds) p)
+
+  -- what the record holds is the total before, or the one that was answered
+  kept-by-answer : c .total ≡ keptAfter before (c .answer)
+  kept-by-answer = promised-from 0 cs c ds p .1 ∙ ap (keptAfter before) (sym (promised-from 0 cs c ds p .0))
+
+  -- a refused call leaves the record as it was
+  pub refused-leaves : (n : ℕ) → c .answer ≡ refused n → c .total ≡ before
+  refused-leaves n e = kept-by-answer ∙ ap (keptAfter before) e
+
+  -- a reply without a word is refused with what its reading says; one with a word with 11 alone, and only where the exact sum would pass
+  -- 2^64 - 1
+  pub refused-at-sum : (n : ℕ) → c .answer ≡ refused n
+      → (reading (c .reply) ≡ refused n)
+      ⊎ ((word : ℕ) × (reading (c .reply) ≡ accepted word) × (n ≡ 11) × (2 ^ 64 - 1 < sumAccepted cs + millionths word))
+  refused-at-sum n e = by-reading (reading (c .reply)) refl (sym answered-at-sum ∙ e)
+    where
+      by-reading : (r : Outcome ℕ) → reading (c .reply) ≡ r → andThen r (plusWord (sumAccepted cs)) ≡ refused n
+          → (reading (c .reply) ≡ refused n)
+          ⊎ ((word : ℕ) × (reading (c .reply) ≡ accepted word) × (n ≡ 11) × (2 ^ 64 - 1 < sumAccepted cs + millionths word))
+      by-reading (refused m) t h = inl (t ∙ h)
+      by-reading (accepted word) t h =
+          let past = refused-past (sumAccepted cs) (millionths word) n h in
+          inr (word, t, past .0, past .1)
+
+  -- a reply is taken only where it has the bytes of a meter reply, and the record then holds the sum with its word
+  pub taken-at-sum : (next : ℕ) → c .answer ≡ accepted next
+      → (word : ℕ) × Carries (c .reply) word × (next ≡ sumAccepted cs + millionths word) × (c .total ≡ sumAccepted cs + millionths word)
+  taken-at-sum next e =
+      let q = then-accepted (reading (c .reply)) (plusWord (sumAccepted cs)) next (sym answered-at-sum ∙ e) in
+      let s = accepted-exact (sumAccepted cs) (millionths (q .0)) next (q .2) in
+      (q .0, carried (c .reply) (q .0) (q .1), s, kept-by-answer ∙ ap (keptAfter before) e ∙ s)
+
+  -- and there it is taken, where the sum fits
+  pub fitting-is-taken : (word : ℕ) → Carries (c .reply) word → sumAccepted cs + millionths word ≤ 2 ^ 64 - 1
+      → c .answer ≡ accepted (sumAccepted cs + millionths word)
+  fitting-is-taken word k h =
+      answered-at-sum
+      ∙ next-when (sumAccepted cs) (c .reply) (accepted word) (carries-read (c .reply) word k)
+      ∙ taken (sumAccepted cs) (millionths word) h
 
 -- three wrong tallies that keep no such run, whatever total they answer: one adds the first word and then only nods; one wraps; one saturates
-abbrev taken-leaving : ℕ → ℕ → ℕ → Call
-taken-leaving word said total = record { word = word; answer = accepted said; total = total }
+abbrev taken-leaving : ℕ → ℕ → ℕ → ℕ → Call
+taken-leaving high low said total = record { reply = meterReply 1 high low; answer = accepted said; total = total }
 
-pub no-nodding : (a b : ℕ) → Promised 0 (taken-leaving 1 a 1000000 ∷ taken-leaving 1 b 1000000 ∷ []) → ⊥
-unfolding totalFound sumAccepted millionths power
-no-nodding a b p = let e : _≡_ {A = ℕ} 1000000 2000000 = exact _ p in omega arith
+-- what a reply of thermostat 1 counts
+counts : (high low said : ℕ) → counted (accepted said) (reading (meterReply 1 high low)) ≡ millionths (wordOf high low)
+counts high low said = ap (counted (accepted said)) (meter-reply-read 1 high low (lit≤ tt) (lit≤ tt))
 
-pub no-wrapping : (a : ℕ) → Promised (2 ^ 64 - 1) (taken-leaving 60001 a 0 ∷ []) → ⊥
+pub no-nodding : (a b : ℕ) → Promised 0 (taken-leaving 0 1 a 1000000 ∷ taken-leaving 0 1 b 1000000 ∷ []) → ⊥
 unfolding totalFound sumAccepted millionths power
-no-wrapping a p = let e : _≡_ {A = ℕ} 0 (2 ^ 64) = exact-from (2 ^ 64 - 1) _ p in omega arith
+no-nodding a b p = let e : _≡_ {A = ℕ} 1000000 (counted (accepted a) (reading (meterReply 1 0 1)) + (counted (accepted b) (reading (meterReply 1 0 1)) + 0)) = exact _ p in omega (arith, counts 0 1 a, counts 0 1 b)
 
-pub no-saturating : (a : ℕ) → Promised (2 ^ 64 - 1) (taken-leaving 60001 a (2 ^ 64 - 1) ∷ []) → ⊥
+pub no-wrapping : (a : ℕ) → Promised (2 ^ 64 - 1) (taken-leaving 234 97 a 0 ∷ []) → ⊥
 unfolding totalFound sumAccepted millionths power
-no-saturating a p = let e : _≡_ {A = ℕ} (2 ^ 64 - 1) (2 ^ 64) = exact-from (2 ^ 64 - 1) _ p in omega arith
+no-wrapping a p = let e : _≡_ {A = ℕ} 0 (2 ^ 64 - 1 + (counted (accepted a) (reading (meterReply 1 234 97)) + 0)) = exact-from (2 ^ 64 - 1) _ p in omega (arith, counts 234 97 a)
+
+pub no-saturating : (a : ℕ) → Promised (2 ^ 64 - 1) (taken-leaving 234 97 a (2 ^ 64 - 1) ∷ []) → ⊥
+unfolding totalFound sumAccepted millionths power
+no-saturating a p = let e : _≡_ {A = ℕ} (2 ^ 64 - 1) (2 ^ 64 - 1 + (counted (accepted a) (reading (meterReply 1 234 97)) + 0)) = exact-from (2 ^ 64 - 1) _ p in omega (arith, counts 234 97 a)

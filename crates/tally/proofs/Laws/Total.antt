@@ -1,12 +1,19 @@
--- A value added to a total: its two answers, that what is accepted is the exact sum, and what is refused. Assumes nothing.
-use mathlib.Core.Path.{_≡_, refl, sym}
+-- A reply added to a total, by its reading; a value added to it: the two answers, that what is accepted is the exact sum, and what is refused. Assumes nothing.
+use mathlib.Core.Path.{_≡_, refl, sym, ap}
 use mathlib.Core.Bool.{Bool, true, false}
+use mathlib.Core.List.{List}
 use Prim.Native.Nat.{ℕ, _+_, _-_, _^_, _≤_, _<_}
 use lib.Dec.{ltb}
 use borrow.Author.Tests.{ltb-true}
-use Rattle.answer.specs.Answer.{refused, accepted, refuseIf}
+use Rattle.answer.specs.Answer.{Outcome, refused, accepted, refuseIf, andThen}
 use Rattle.answer.proofs.Laws.Test.{below, not-below, not-accepted, same, passed}
-use Rattle.tally.specs.Total.{exactSum}
+use Rattle.tally.specs.Reading.{reading}
+use Rattle.tally.specs.Total.{exactSum, plusWord, nextTotal}
+
+-- a reply added to a total, by what its reading is
+pub next-when : (total : ℕ) (reply : List ℕ) (read : Outcome ℕ) → reading reply ≡ read
+    → nextTotal total reply ≡ andThen read (plusWord total)
+next-when total reply read e = ap (λ (r : Outcome ℕ). andThen r (plusWord total)) e
 
 module _ (total v : ℕ) where
   -- the two answers
