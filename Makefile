@@ -41,7 +41,7 @@ target/tests/boost: tests/boost.cc include/gateway.h $(LIB)
 	@mkdir -p $(@D)
 	$(CXX) -std=c++17 -O2 -Wall -Wextra -Werror -Iinclude -o $@ $< $(LIB)
 
-target/tests/rollover: tests/rollover.c examples/gateway.c include/gateway.h $(LIB)
+target/tests/rollover target/tests/readings: target/tests/%: tests/%.c examples/gateway.c include/gateway.h $(LIB)
 	@mkdir -p $(@D)
 	$(CC) $(CFLAGS) -o $@ $< $(LIB)
 

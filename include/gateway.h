@@ -226,7 +226,8 @@ uint64_t cost_millionths(uint16_t word);
 
 /* Adds a meter reply to a tally: the cost word of data that starts at register 170 and has exactly two registers, from any
    thermostat. Accepted: nothing. Refused, with the tally unchanged: as omnistat_read_at_host refuses the bytes, then 8 for any
-   other message or run, a text too, then 11. 81 32 AA 87 07 EB, the word 34567, adds 4567000. */
+   other message or run, a text too, then 11. 81 32 AA 87 07 EB, with the word 34567 in bytes[3], its high byte, and bytes[4],
+   adds 4567000. */
 uint64_t meter_add(struct tally *t, const uint8_t *bytes, size_t len);
 
 /* X-10 patterns: one byte of value 0 or 1 for each half cycle. House 0 to 15 stands for A to P, units are 1 to 16. */

@@ -125,7 +125,7 @@ static void paper_examples(void)
 static void before_the_total(void)
 {
     static const uint8_t data[] = {COST, 0xEA, 0x61}, other[] = {COST - 1, 0xEA, 0x61};
-    uint8_t bytes[REPLY_MAX];
+    uint8_t bytes[REPLY_MAX] = {0};
     size_t len = message(bytes, 0x81, DATA, data, sizeof data);
     SAME(add_at(UINT64_MAX, bytes, len), 11);
     SAME(add_at(UINT64_MAX, bytes, len - 1), 1);
@@ -170,7 +170,7 @@ static void every_type(void)
     }
 }
 
-/* Every text register, with texts that hold the bytes of a run, and every length of text. */
+/* Every text register and its neighbours, with every half-byte and every length of text: none is taken. */
 static void every_text(void)
 {
     for (unsigned start = 171; start <= 182; start++) {

@@ -22,7 +22,7 @@ use Rattle.thermostat.specs.Step.{Done, step, changed}
 use Rattle.thermostat.proofs.Laws.Set.{set-stores, set-leaves-the-others, set-stores-none, set-leaves-the-texts, another-address-leaves, leaves-the-map, leaves-the-texts, length-left}
 use Rattle.thermostat.proofs.Laws.TextSet.{text-set-stores, text-set-leaves-the-others, text-set-leaves-the-map, texts-length-left, texts-left-allowed, polled-text-is-what-was-set}
 use Rattle.thermostat.proofs.Laws.Temperature as Temperatures
-use Rattle.tally.proofs.Laws.Run.{exact}
+use Rattle.tally.proofs.Laws.Run.{exact, taken-at-sum, fitting-is-taken, refused-at-sum, refused-leaves}
 use Rattle.listing.proofs.Laws.Faithful.{faithful, only-faithful}
 use Rattle.acceptance.specs.Conditions.{Condition-2, Messages-read-back, Items, Unchanged, Step-leaves}
 
@@ -119,6 +119,12 @@ condition-2 = record {
     pair-degrees-back = Temperatures.pair-write-after-read;
   };
   exact-sum = exact;
+  meter-calls = λ before c after p. record {
+    taken = taken-at-sum before c after p;
+    fitting = fitting-is-taken before c after p;
+    refused-with = refused-at-sum before c after p;
+    unchanged = refused-leaves before c after p;
+  };
   listing = faithful;
   only-listing = only-faithful;
 }

@@ -1,9 +1,9 @@
 -- The buyer's condition 2, in one place, over all formats and the writers and readers that callers have. Condition 3 is `Condition-3` in
 -- crate link.
-use Prim.Native.Nat.{ℕ, _+_, _<_, _≤_}
+use Prim.Native.Nat.{ℕ, _+_, _-_, _^_, _<_, _≤_}
 use mathlib.Core.Path.{_≡_}
 use mathlib.Core.Bool.{true, false}
-use mathlib.Core.List.{List, _++_}
+use mathlib.Core.List.{List, _∷_, _++_}
 use mathlib.Core.Logic.{_⊎_}
 use lib.Dec.{T}
 use lib.Ieee.{Float, eq}
@@ -32,6 +32,8 @@ use Rattle.thermostat.specs.Map.{content}
 use Rattle.thermostat.specs.Texts.{textPlace, textCount, heldText, storeAllowed}
 use Rattle.thermostat.specs.Step.{Done, step, isFor, allSettable}
 use Rattle.thermostat.specs.Temperature.{celsius, byteOf, bytesOf}
+use Rattle.tally.specs.Cost.{millionths}
+use Rattle.tally.specs.Reading.{reading, Carries}
 use Rattle.tally.specs.Run.{Call, Promised, totalFound, sumAccepted}
 use Rattle.x10.specs.Codes.{functionOf}
 use Rattle.x10.specs.Pattern as X10
@@ -130,6 +132,19 @@ pub record Temperatures : Type 0 where
   pub pair-degrees-back : (x y : Float) (cool heat : ℕ) → bytesOf x y ≡ accepted (cool, heat)
       → (eq x (celsius cool) ≡ true) × (eq y (celsius heat) ≡ true)
 
+-- a meter call after others on a record that started at 0: a reply is taken only where it has the bytes of a meter reply, and its word is then
+-- added; it is taken where the sum fits; a reply without a word is refused with what its reading says, one with a word with 11 alone, where the
+-- sum would pass; and a refused call leaves the record as it was
+pub record Meter-call (before : List Call) (c : Call) : Type 0 where
+  pub taken : (next : ℕ) → c .answer ≡ accepted next
+      → (word : ℕ) × Carries (c .reply) word × (next ≡ sumAccepted before + millionths word) × (c .total ≡ sumAccepted before + millionths word)
+  pub fitting : (word : ℕ) → Carries (c .reply) word → sumAccepted before + millionths word ≤ 2 ^ 64 - 1
+      → c .answer ≡ accepted (sumAccepted before + millionths word)
+  pub refused-with : (n : ℕ) → c .answer ≡ refused n
+      → ((reading (c .reply) ≡ refused n) × (n ≤ 8))
+      ⊎ ((word : ℕ) × (reading (c .reply) ≡ accepted word) × (n ≡ 11) × (2 ^ 64 - 1 < sumAccepted before + millionths word))
+  pub unchanged : (n : ℕ) → c .answer ≡ refused n → c .total ≡ totalFound 0 before
+
 pub record Condition-2 : Type 0 where
   pub frames : Inverse readFrame (λ f. writeFrame (f .kind) (f .bytes)) Any Bytes
   pub first-frame : (kind : ℕ) (d s rest : List ℕ) → writeFrame kind d ≡ accepted s → readFirst (s ++ rest) ≡ accepted (record { kind = kind; bytes = d })
@@ -147,5 +162,6 @@ pub record Condition-2 : Type 0 where
   pub polled-text : Polled-text
   pub temperatures : Temperatures
   pub exact-sum : (calls : List Call) → Promised 0 calls → totalFound 0 calls ≡ sumAccepted calls
+  pub meter-calls : (before : List Call) (c : Call) (after : List Call) → Promised 0 (before ++ (c ∷ after)) → Meter-call before c
   pub listing : (s : List ℕ) → Faithful s (lines s)
   pub only-listing : (s : List ℕ) (ls : List Line) → Faithful s ls → ls ≡ lines s

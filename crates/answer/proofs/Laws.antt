@@ -1,4 +1,5 @@
 -- The laws, a file for each subject.
+pub mod AtMost
 pub mod Decided
 pub mod Output
 pub mod Packed

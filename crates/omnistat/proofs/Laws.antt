@@ -7,6 +7,7 @@ pub mod Message
 pub mod Omnistat
 pub mod Output
 pub mod Part
+pub mod Refusals
 pub mod Run
 pub mod Sum
 pub mod Text

@@ -2,6 +2,9 @@
 use Prim.Native.Nat.{ℕ, _+_, _*_, _/_, _%_, _-_, _^_}
 
 -- registers 170 and 171 make a word, high byte first
+abbrev pub costRegister : ℕ
+costRegister = 170
+
 abbrev pub wordOf : ℕ → ℕ → ℕ
 wordOf high low = high * 256 + low
 

@@ -24,12 +24,12 @@ totalFound total [] = total
 totalFound total (c ∷ cs) = totalFound (c .total) cs
 
 -- what a call counts, by its answer and the reading of its reply: the word's value where the answer is that it was taken, else nothing
-abbrev pub counted : Outcome ℕ → Outcome ℕ → ℕ
-counted (refused n) read = 0
-counted (accepted next) (refused n) = 0
-counted (accepted next) (accepted word) = millionths word
+abbrev pub valueTaken : Outcome ℕ → Outcome ℕ → ℕ
+valueTaken (refused n) r = 0
+valueTaken (accepted next) (refused n) = 0
+valueTaken (accepted next) (accepted word) = millionths word
 
 -- the sum of the accepted words, as integers
 unfoldable pub sumAccepted : List Call → ℕ
 sumAccepted [] = 0
-sumAccepted (c ∷ cs) = counted (c .answer) (reading (c .reply)) + sumAccepted cs
+sumAccepted (c ∷ cs) = valueTaken (c .answer) (reading (c .reply)) + sumAccepted cs

@@ -1,7 +1,8 @@
 // Document 02, K5: a meter reply, and the cost word that it carries.
 ghost use mathlib.Core.Path.{_≡_};
 ghost use Rattle.tally.specs.Cost.{wordOf};
-ghost use Rattle.tally.specs.Reading.{wordIn, reading, readingOf};
+ghost use Rattle.tally.specs.Reading.{wordIn, reading};
+ghost use Rattle.tally.specs.Parts.{readingOf};
 use answer::Refusal;
 use omnistat::reply::Reply;
 

@@ -231,7 +231,7 @@ fn costs(compare: &mut Compare, random: &mut Random) {
 }
 
 /// Every first byte, every start register with every count, every type with every length, every byte damaged, every cut, and
-/// texts; each at an empty tally, at a full one, and where the word just fits or does not.
+/// texts; each at an empty tally, at a full one, and where the word 9999, which most of them carry, just fits and does not.
 fn meters(compare: &mut Compare, random: &mut Random) {
     let mut at_edges = |compare: &mut Compare, bytes: &[u8]| {
         let edge = u64::MAX - 9_999_000_000;
@@ -834,9 +834,11 @@ fn long_inputs(compare: &mut Compare) {
     compare.answer(Call::Step, got, 4);
     let b = long.lend(&paper::omnistat(0x81, 0, &[]));
     compare.answer(Call::ReadAtHost, calls::omnistat_read_at_host(b), 4);
-    let tally = Region::new(1, 0).lend_aligned(&[0; 8], 8);
+    let mut record = Region::new(1, 0);
+    let tally = record.lend_aligned(&[0; 8], 8);
     let b = long.lend(&paper::meter_reply(1, 34567));
     compare.answer(Call::MeterAdd, calls::meter_add(tally, b), 4);
+    compare.fact("a long reply leaves the tally", record.holds(tally, &[0; 8], &[]));
     let b = long.lend(&paper::omnistat_text(0x01, 1, 0, 175, b"low"));
     let got = calls::omnistat_read_at_thermostat(b);
     compare.answer(Call::ReadAtThermostat, got, 4);

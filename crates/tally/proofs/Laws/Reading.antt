@@ -1,4 +1,5 @@
--- A meter reply: its reading by what the host's reader says of it, and that the bytes of a meter reply carry a word and no others do.
+-- A meter reply: its reading by what the host's reader says of it, what it is refused with, and that the bytes of a meter reply carry a word and
+-- no others do.
 -- Assumes nothing.
 use mathlib.Core.Path.{_≡_, refl, sym, ap, _∙_}
 use mathlib.Core.Bool.{true, not}
@@ -9,6 +10,7 @@ use lib.Dec.{eqb, lit≤}
 use lib.ListN.{length, getD}
 use borrow.Author.Tests.{le-leb, eqb-true, eq-eqb, ne-eqb}
 use Rattle.answer.specs.Answer.{Outcome, refused, accepted, refuseIf, andThen}
+use Rattle.answer.proofs.Laws.AtMost.{AtMost, check, further}
 use Rattle.answer.proofs.Laws.Test.{same, holds, fails, not-accepted, passed-not, then-accepted}
 use Rattle.omnistat.specs.declared.frame.End.the-variants.{Host}
 use Rattle.omnistat.specs.Register.{runAllowed}
@@ -16,8 +18,9 @@ use Rattle.omnistat.specs.Frame.{total, framed, bytesOf, directed, firstOf}
 use Rattle.omnistat.specs.Message.{acknowledge, negative, dataFrom, group, asMessage}
 use Rattle.omnistat.specs.Omnistat.{Message, counted, text, Addressed, addressed, read, write, writeBytes}
 use Rattle.omnistat.proofs.Laws.Message.{within-both}
+use Rattle.omnistat.proofs.Laws.Refusals.{read-refusals}
 use Rattle.omnistat.proofs.Laws.Omnistat.{as-number, write-summed, read-after-write, write-after-read-counted}
-use Rattle.tally.specs.Cost.{wordOf}
+use Rattle.tally.specs.Cost.{costRegister, wordOf}
 use Rattle.tally.specs.Reading.{wordIn, wordFrom, reading, meterReply, Carries}
 
 -- the reading, by what the host's reader says
@@ -25,6 +28,24 @@ pub reading-when : (reply : List ℕ) (o : Outcome (Addressed (Message Host))) �
     → reading reply ≡ andThen o (λ a. wordFrom (a .message))
 unfolding reading
 reading-when reply o e = ap (λ (x : Outcome (Addressed (Message Host))). andThen x (λ a. wordFrom (a .message))) e
+
+-- a reading is refused with no number above 8
+data-refusals : (start : ℕ) (values : List ℕ) → AtMost 8 (wordIn start values)
+data-refusals start [] = lit≤ tt
+data-refusals start (high ∷ []) = lit≤ tt
+data-refusals start (high ∷ low ∷ []) = check 8 (not (eqb start costRegister)) 8 _ (lit≤ tt) tt
+data-refusals start (high ∷ low ∷ b ∷ values) = lit≤ tt
+
+message-refusals : (m : Message Host) → AtMost 8 (wordFrom m)
+message-refusals (counted (dataFrom start values)) = data-refusals start values
+message-refusals (counted acknowledge) = lit≤ tt
+message-refusals (counted negative) = lit≤ tt
+message-refusals (counted (group g values)) = lit≤ tt
+message-refusals (text t) = lit≤ tt
+
+pub reading-refusals : (reply : List ℕ) → AtMost 8 (reading reply)
+unfolding reading
+reading-refusals reply = further 8 (read Host reply) (λ a. wordFrom (a .message)) (read-refusals Host reply) (λ a. message-refusals (a .message))
 
 -- the word of data: another start or another count has none
 pub other-count : (start : ℕ) (values : List ℕ) → (length values ≡ 2 → ⊥) → wordIn start values ≡ refused 8

@@ -7,20 +7,21 @@ use native.Mathlib.Nat.{add-zero, zero-add, add-assoc}
 use native.Mathlib.Omega.{arith}
 use lib.Dec.{lit≤}
 use Rattle.answer.specs.Answer.{Outcome, refused, accepted, andThen}
+use Rattle.answer.proofs.Laws.AtMost.{refused-at-most}
 use Rattle.answer.proofs.Laws.Test.{then-accepted}
 use Rattle.tally.specs.Cost.{wordOf, millionths, power}
 use Rattle.tally.specs.Reading.{reading, meterReply, Carries}
 use Rattle.tally.specs.Total.{plusWord, nextTotal, keptAfter, totalAfter}
-use Rattle.tally.specs.Run.{Call, Promised, totalFound, counted, sumAccepted}
-use Rattle.tally.proofs.Laws.Reading.{carried, carries-read, meter-reply-read}
+use Rattle.tally.specs.Run.{Call, Promised, totalFound, valueTaken, sumAccepted}
+use Rattle.tally.proofs.Laws.Reading.{reading-refusals, carried, carries-read, meter-reply-read}
 use Rattle.tally.proofs.Laws.Total.{next-when, taken, accepted-exact, refused-past}
 
 -- one reply: what the record gains is what the reply counts, by its answer
-gains : (total : ℕ) (read : Outcome ℕ) → keptAfter total (andThen read (plusWord total)) ≡ total + counted (andThen read (plusWord total)) read
+gains : (total : ℕ) (r : Outcome ℕ) → keptAfter total (andThen r (plusWord total)) ≡ total + valueTaken (andThen r (plusWord total)) r
 gains total (refused n) = sym (add-zero total)
 gains total (accepted word) = by-answer (plusWord total word) refl
   where
-    by-answer : (o : Outcome ℕ) → plusWord total word ≡ o → keptAfter total o ≡ total + counted o (accepted word)
+    by-answer : (o : Outcome ℕ) → plusWord total word ≡ o → keptAfter total o ≡ total + valueTaken o (accepted word)
     by-answer (refused n) e = sym (add-zero total)
     by-answer (accepted next) e = accepted-exact total (millionths word) next e
 
@@ -29,10 +30,10 @@ pub exact-from : (total : ℕ) (cs : List Call) → Promised total cs → totalF
 unfolding Promised totalFound sumAccepted
 exact-from total [] p = sym (add-zero total)
 exact-from total (c ∷ cs) p =
-    let read = reading (c .reply) in
+    let r = reading (c .reply) in
     exact-from (c .total) cs (p .2)
-    ∙ ap (λ (n : ℕ). n + sumAccepted cs) (p .1 ∙ gains total read ∙ ap (λ (a : Outcome ℕ). total + counted a read) (sym (p .0)))
-    ∙ add-assoc total (counted (c .answer) read) (sumAccepted cs)
+    ∙ ap (λ (n : ℕ). n + sumAccepted cs) (p .1 ∙ gains total r ∙ ap (λ (a : Outcome ℕ). total + valueTaken a r) (sym (p .0)))
+    ∙ add-assoc total (valueTaken (c .answer) r) (sumAccepted cs)
 
 -- from 0: the record holds the exact sum of the accepted words
 pub exact : (cs : List Call) → Promised 0 cs → totalFound 0 cs ≡ sumAccepted cs
@@ -72,17 +73,17 @@ module _ (cs : List Call) (c : Call) (ds : List Call) (p : Promised 0 (cs ++ (c 
   pub refused-leaves : (n : ℕ) → c .answer ≡ refused n → c .total ≡ before
   refused-leaves n e = kept-by-answer ∙ ap (keptAfter before) e
 
-  -- a reply without a word is refused with what its reading says; one with a word with 11 alone, and only where the exact sum would pass
-  -- 2^64 - 1
+  -- a reply without a word is refused with what its reading says, and with no number above 8; one with a word with 11 alone, and only where
+  -- the exact sum would pass 2^64 - 1
   pub refused-at-sum : (n : ℕ) → c .answer ≡ refused n
-      → (reading (c .reply) ≡ refused n)
+      → ((reading (c .reply) ≡ refused n) × (n ≤ 8))
       ⊎ ((word : ℕ) × (reading (c .reply) ≡ accepted word) × (n ≡ 11) × (2 ^ 64 - 1 < sumAccepted cs + millionths word))
   refused-at-sum n e = by-reading (reading (c .reply)) refl (sym answered-at-sum ∙ e)
     where
       by-reading : (r : Outcome ℕ) → reading (c .reply) ≡ r → andThen r (plusWord (sumAccepted cs)) ≡ refused n
-          → (reading (c .reply) ≡ refused n)
+          → ((reading (c .reply) ≡ refused n) × (n ≤ 8))
           ⊎ ((word : ℕ) × (reading (c .reply) ≡ accepted word) × (n ≡ 11) × (2 ^ 64 - 1 < sumAccepted cs + millionths word))
-      by-reading (refused m) t h = inl (t ∙ h)
+      by-reading (refused m) t h = inl (t ∙ h, refused-at-most 8 (reading (c .reply)) n (reading-refusals (c .reply)) (t ∙ h))
       by-reading (accepted word) t h =
           let past = refused-past (sumAccepted cs) (millionths word) n h in
           inr (word, t, past .0, past .1)
@@ -108,17 +109,17 @@ abbrev taken-leaving : ℕ → ℕ → ℕ → ℕ → Call
 taken-leaving high low said total = record { reply = meterReply 1 high low; answer = accepted said; total = total }
 
 -- what a reply of thermostat 1 counts
-counts : (high low said : ℕ) → counted (accepted said) (reading (meterReply 1 high low)) ≡ millionths (wordOf high low)
-counts high low said = ap (counted (accepted said)) (meter-reply-read 1 high low (lit≤ tt) (lit≤ tt))
+counts : (high low said : ℕ) → valueTaken (accepted said) (reading (meterReply 1 high low)) ≡ millionths (wordOf high low)
+counts high low said = ap (valueTaken (accepted said)) (meter-reply-read 1 high low (lit≤ tt) (lit≤ tt))
 
 pub no-nodding : (a b : ℕ) → Promised 0 (taken-leaving 0 1 a 1000000 ∷ taken-leaving 0 1 b 1000000 ∷ []) → ⊥
 unfolding totalFound sumAccepted millionths power
-no-nodding a b p = let e : _≡_ {A = ℕ} 1000000 (counted (accepted a) (reading (meterReply 1 0 1)) + (counted (accepted b) (reading (meterReply 1 0 1)) + 0)) = exact _ p in omega (arith, counts 0 1 a, counts 0 1 b)
+no-nodding a b p = let e : _≡_ {A = ℕ} 1000000 (valueTaken (accepted a) (reading (meterReply 1 0 1)) + (valueTaken (accepted b) (reading (meterReply 1 0 1)) + 0)) = exact _ p in omega (arith, counts 0 1 a, counts 0 1 b)
 
 pub no-wrapping : (a : ℕ) → Promised (2 ^ 64 - 1) (taken-leaving 234 97 a 0 ∷ []) → ⊥
 unfolding totalFound sumAccepted millionths power
-no-wrapping a p = let e : _≡_ {A = ℕ} 0 (2 ^ 64 - 1 + (counted (accepted a) (reading (meterReply 1 234 97)) + 0)) = exact-from (2 ^ 64 - 1) _ p in omega (arith, counts 234 97 a)
+no-wrapping a p = let e : _≡_ {A = ℕ} 0 (2 ^ 64 - 1 + (valueTaken (accepted a) (reading (meterReply 1 234 97)) + 0)) = exact-from (2 ^ 64 - 1) _ p in omega (arith, counts 234 97 a)
 
 pub no-saturating : (a : ℕ) → Promised (2 ^ 64 - 1) (taken-leaving 234 97 a (2 ^ 64 - 1) ∷ []) → ⊥
 unfolding totalFound sumAccepted millionths power
-no-saturating a p = let e : _≡_ {A = ℕ} (2 ^ 64 - 1) (2 ^ 64 - 1 + (counted (accepted a) (reading (meterReply 1 234 97)) + 0)) = exact-from (2 ^ 64 - 1) _ p in omega (arith, counts 234 97 a)
+no-saturating a p = let e : _≡_ {A = ℕ} (2 ^ 64 - 1) (2 ^ 64 - 1 + (valueTaken (accepted a) (reading (meterReply 1 234 97)) + 0)) = exact-from (2 ^ 64 - 1) _ p in omega (arith, counts 234 97 a)

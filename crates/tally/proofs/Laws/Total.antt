@@ -11,9 +11,8 @@ use Rattle.tally.specs.Reading.{reading}
 use Rattle.tally.specs.Total.{exactSum, plusWord, nextTotal}
 
 -- a reply added to a total, by what its reading is
-pub next-when : (total : ℕ) (reply : List ℕ) (read : Outcome ℕ) → reading reply ≡ read
-    → nextTotal total reply ≡ andThen read (plusWord total)
-next-when total reply read e = ap (λ (r : Outcome ℕ). andThen r (plusWord total)) e
+pub next-when : (total : ℕ) (reply : List ℕ) (r : Outcome ℕ) → reading reply ≡ r → nextTotal total reply ≡ andThen r (plusWord total)
+next-when total reply r e = ap (λ (o : Outcome ℕ). andThen o (plusWord total)) e
 
 module _ (total v : ℕ) where
   -- the two answers

@@ -3,7 +3,7 @@ use denote.Ref.{now}
 use borrow.Author.Needs.{needs}
 use Rattle.answer.specs.Answer.{andThen}
 use Rattle.tally.specs.declared.reading.Reading.{Reading}
-use Rattle.tally.specs.Reading.{readingOf}
+use Rattle.tally.specs.Parts.{readingOf}
 use Rattle.tally.specs.Total.{exactSum, plusWord, nextTotal}
 use Rattle.tally.proofs.Laws.Total.{next-when}
 use Rattle.tally.proofs.next_total.Statement.{statement}
