@@ -32,8 +32,8 @@ enum gateway_answer {
     GATEWAY_UNKNOWN = 6,      /* unknown type or key */
     GATEWAY_TYPE_LENGTH = 7,  /* length wrong for the type */
     GATEWAY_FIELD = 8,        /* a field outside its list; a text of more than 60 characters or with a wrong one, also in a
-                                 text store; a capture's state that no pieces lead to, or not of 74 bytes; a whole reply
-                                 that is no meter reply */
+                                 text store; a capture's state that no pieces lead to, or not of 74 bytes; to meter_add a
+                                 whole reply that is no meter reply */
     GATEWAY_ROOM = 9,         /* lent output too short (for a step: under 65 bytes; for a piece: for the lines of this call), a
                                  register map not of 256 bytes, or a text store not of 610 */
     /* 10 is retired by change request K4 and not used again: it stood for a cost word above 65025; every word is a cost now */

@@ -1,6 +1,7 @@
 /* Cost words, meter replies and the tally, against the rules of document 01, "Cost", and document 02, K4 and K5. */
 #include "check.h"
 #include "gateway.h"
+#include "omnistat.h"
 
 __extension__ typedef unsigned __int128 wide;
 
@@ -44,14 +45,14 @@ static size_t meter_reply(uint8_t *to, unsigned number, unsigned w)
     return message(to, 0x80 + number, DATA, data, sizeof data);
 }
 
-/* The answer number, and the total afterwards: the reader's refusals, which tests/c/omnistat.c has, then 8, then 11. */
+/* The answer number, and the total afterwards: the reader's refusals, then 8, then 11. */
 static uint64_t want_add(uint64_t *total, const uint8_t *bytes, size_t len)
 {
-    uint64_t read = omnistat_read_at_host(bytes, len);
-    if (gateway_number(read) != GATEWAY_ACCEPTED) {
+    uint64_t read = model_read(HOST, bytes, len);
+    if (answer_of(read) != 0) {
         return read;
     }
-    if (gateway_byte(read, 0) != DATA || gateway_byte(read, 2) != COST || gateway_byte(read, 3) != 2) {
+    if (bits_of(read, 8, 8) != DATA || bits_of(read, 24, 8) != COST || bits_of(read, 32, 8) != 2) {
         return 8;
     }
     wide sum = (wide)*total + value_of(bytes[3] * 256u + bytes[4]);

@@ -33,8 +33,8 @@ use Rattle.thermostat.specs.Texts.{textPlace, textCount, heldText, storeAllowed
 use Rattle.thermostat.specs.Step.{Done, step, isFor, allSettable}
 use Rattle.thermostat.specs.Temperature.{celsius, byteOf, bytesOf}
 use Rattle.tally.specs.Cost.{millionths}
-use Rattle.tally.specs.Reading.{reading, Carries}
-use Rattle.tally.specs.Run.{Call, Promised, totalFound, sumAccepted}
+use Rattle.tally.specs.Reading.{Carries}
+use Rattle.tally.specs.Run.{Call, Promised, totalFound, sumAccepted, Refused-with}
 use Rattle.x10.specs.Codes.{functionOf}
 use Rattle.x10.specs.Pattern as X10
 use Rattle.listing.specs.Lines.{Line, lines}
@@ -133,16 +133,14 @@ pub record Temperatures : Type 0 where
       → (eq x (celsius cool) ≡ true) × (eq y (celsius heat) ≡ true)
 
 -- a meter call after others on a record that started at 0: a reply is taken only where it has the bytes of a meter reply, and its word is then
--- added; it is taken where the sum fits; a reply without a word is refused with what its reading says, one with a word with 11 alone, where the
--- sum would pass; and a refused call leaves the record as it was
+-- added; it is taken where the sum fits; else it is refused with the reader's number, with 8 or with 11, each where it should be; and a
+-- refused call leaves the record as it was
 pub record Meter-call (before : List Call) (c : Call) : Type 0 where
   pub taken : (next : ℕ) → c .answer ≡ accepted next
       → (word : ℕ) × Carries (c .reply) word × (next ≡ sumAccepted before + millionths word) × (c .total ≡ sumAccepted before + millionths word)
   pub fitting : (word : ℕ) → Carries (c .reply) word → sumAccepted before + millionths word ≤ 2 ^ 64 - 1
       → c .answer ≡ accepted (sumAccepted before + millionths word)
-  pub refused-with : (n : ℕ) → c .answer ≡ refused n
-      → ((reading (c .reply) ≡ refused n) × (n ≤ 8))
-      ⊎ ((word : ℕ) × (reading (c .reply) ≡ accepted word) × (n ≡ 11) × (2 ^ 64 - 1 < sumAccepted before + millionths word))
+  pub refused-with : (n : ℕ) → c .answer ≡ refused n → Refused-with before c n
   pub unchanged : (n : ℕ) → c .answer ≡ refused n → c .total ≡ totalFound 0 before
 
 pub record Condition-2 : Type 0 where

@@ -1,5 +1,6 @@
 -- The laws, a file for each subject.
 pub mod Check
+pub mod Data
 pub mod Frame
 pub mod Group
 pub mod Heard

@@ -1,10 +1,11 @@
 -- Document 01, "Cost": a cost word and its value. Every word of 16 bits is one, as document 02, K4, has it.
 use Prim.Native.Nat.{ℕ, _+_, _*_, _/_, _%_, _-_, _^_}
 
--- registers 170 and 171 make a word, high byte first
+-- registers 170 and 171 make a word
 abbrev pub costRegister : ℕ
 costRegister = 170
 
+-- high byte first
 abbrev pub wordOf : ℕ → ℕ → ℕ
 wordOf high low = high * 256 + low
 

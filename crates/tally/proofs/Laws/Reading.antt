@@ -1,25 +1,24 @@
 -- A meter reply: its reading by what the host's reader says of it, what it is refused with, and that the bytes of a meter reply carry a word and
--- no others do.
--- Assumes nothing.
+-- no others do. Assumes nothing.
 use mathlib.Core.Path.{_≡_, refl, sym, ap, _∙_}
-use mathlib.Core.Bool.{true, not}
+use mathlib.Core.Bool.{Bool, true, false, not}
 use mathlib.Core.List.{List, [], _∷_}
+use mathlib.Core.Logic.{_⊎_, inl, inr}
 use Prim.Native.Nat.{ℕ, _≤_}
 use native.Mathlib.Omega.{arith}
 use lib.Dec.{eqb, lit≤}
 use lib.ListN.{length, getD}
-use borrow.Author.Tests.{le-leb, eqb-true, eq-eqb, ne-eqb}
+use borrow.Author.Tests.{eqb-true, eq-eqb, ne-eqb}
 use Rattle.answer.specs.Answer.{Outcome, refused, accepted, refuseIf, andThen}
-use Rattle.answer.proofs.Laws.AtMost.{AtMost, check, further}
+use Rattle.answer.proofs.Laws.AtMost.{refused-at-most}
 use Rattle.answer.proofs.Laws.Test.{same, holds, fails, not-accepted, passed-not, then-accepted}
 use Rattle.omnistat.specs.declared.frame.End.the-variants.{Host}
 use Rattle.omnistat.specs.Register.{runAllowed}
-use Rattle.omnistat.specs.Frame.{total, framed, bytesOf, directed, firstOf}
-use Rattle.omnistat.specs.Message.{acknowledge, negative, dataFrom, group, asMessage}
-use Rattle.omnistat.specs.Omnistat.{Message, counted, text, Addressed, addressed, read, write, writeBytes}
-use Rattle.omnistat.proofs.Laws.Message.{within-both}
+use Rattle.omnistat.specs.Frame.{total}
+use Rattle.omnistat.specs.Message.{acknowledge, negative, dataFrom, group}
+use Rattle.omnistat.specs.Omnistat.{Message, counted, text, Addressed, addressed, read}
+use Rattle.omnistat.proofs.Laws.Data.{dataBytes, data-bytes, data-read}
 use Rattle.omnistat.proofs.Laws.Refusals.{read-refusals}
-use Rattle.omnistat.proofs.Laws.Omnistat.{as-number, write-summed, read-after-write, write-after-read-counted}
 use Rattle.tally.specs.Cost.{costRegister, wordOf}
 use Rattle.tally.specs.Reading.{wordIn, wordFrom, reading, meterReply, Carries}
 
@@ -29,23 +28,38 @@ pub reading-when : (reply : List ℕ) (o : Outcome (Addressed (Message Host))) �
 unfolding reading
 reading-when reply o e = ap (λ (x : Outcome (Addressed (Message Host))). andThen x (λ a. wordFrom (a .message))) e
 
--- a reading is refused with no number above 8
-data-refusals : (start : ℕ) (values : List ℕ) → AtMost 8 (wordIn start values)
-data-refusals start [] = lit≤ tt
-data-refusals start (high ∷ []) = lit≤ tt
-data-refusals start (high ∷ low ∷ []) = check 8 (not (eqb start costRegister)) 8 _ (lit≤ tt) tt
-data-refusals start (high ∷ low ∷ b ∷ values) = lit≤ tt
+same-number : (m n : ℕ) → _≡_ {A = Outcome ℕ} (refused m) (refused n) → n ≡ m
+same-number m n e = cc
 
-message-refusals : (m : Message Host) → AtMost 8 (wordFrom m)
-message-refusals (counted (dataFrom start values)) = data-refusals start values
-message-refusals (counted acknowledge) = lit≤ tt
-message-refusals (counted negative) = lit≤ tt
-message-refusals (counted (group g values)) = lit≤ tt
-message-refusals (text t) = lit≤ tt
+-- a message without a word is 8
+data-refused : (start : ℕ) (values : List ℕ) (n : ℕ) → wordIn start values ≡ refused n → n ≡ 8
+data-refused start [] n e = same-number 8 n e
+data-refused start (high ∷ []) n e = same-number 8 n e
+data-refused start (high ∷ low ∷ []) n e = by-test (not (eqb start costRegister)) e
+  where
+    by-test : (t : Bool) → refuseIf t 8 (accepted (wordOf high low)) ≡ refused n → n ≡ 8
+    by-test true e = same-number 8 n e
+    by-test false e = absurd (not-accepted n (wordOf high low) (sym e))
+data-refused start (high ∷ low ∷ b ∷ values) n e = same-number 8 n e
 
-pub reading-refusals : (reply : List ℕ) → AtMost 8 (reading reply)
-unfolding reading
-reading-refusals reply = further 8 (read Host reply) (λ a. wordFrom (a .message)) (read-refusals Host reply) (λ a. message-refusals (a .message))
+message-refused : (m : Message Host) (n : ℕ) → wordFrom m ≡ refused n → n ≡ 8
+message-refused (counted (dataFrom start values)) n e = data-refused start values n e
+message-refused (counted acknowledge) n e = same-number 8 n e
+message-refused (counted negative) n e = same-number 8 n e
+message-refused (counted (group g values)) n e = same-number 8 n e
+message-refused (text t) n e = same-number 8 n e
+
+-- a reading is refused with what the reader refuses with, no number above 8; or with 8 where the reader accepts
+pub reading-refused : (reply : List ℕ) (n : ℕ) → reading reply ≡ refused n
+    → ((read Host reply ≡ refused n) × (n ≤ 8)) ⊎ ((a : Addressed (Message Host)) × (read Host reply ≡ accepted a) × (n ≡ 8))
+reading-refused reply n e = by-reader (read Host reply) refl
+  where
+    by-reader : (o : Outcome (Addressed (Message Host))) → read Host reply ≡ o
+        → ((read Host reply ≡ refused n) × (n ≤ 8)) ⊎ ((a : Addressed (Message Host)) × (read Host reply ≡ accepted a) × (n ≡ 8))
+    by-reader (refused m) r =
+        let s = r ∙ ap refused (sym (same-number m n (sym (reading-when reply (refused m) r) ∙ e))) in
+        inl (s, refused-at-most 8 (read Host reply) n (read-refusals Host reply) s)
+    by-reader (accepted a) r = inr (a, r, message-refused (a .message) n (sym (reading-when reply (accepted a) r) ∙ e))
 
 -- the word of data: another start or another count has none
 pub other-count : (start : ℕ) (values : List ℕ) → (length values ≡ 2 → ⊥) → wordIn start values ≡ refused 8
@@ -66,32 +80,20 @@ two-registers start (high ∷ []) s h = let z : _≡_ {A = ℕ} 1 2 = h in absur
 two-registers start (high ∷ low ∷ []) s h = fails 8 (accepted (wordOf high low)) (ap not (eq-eqb start 170 s))
 two-registers start (high ∷ low ∷ b ∷ values) s h = absurd (omega (arith, h))
 
--- what is written for a number and data bytes: the number is of a thermostat, and the bytes are those of the message
-written : (number : ℕ) (payload bytes : List ℕ) → writeBytes Host number 2 payload ≡ accepted bytes
-    → ((1 ≤ number) × (number ≤ 127)) × (bytesOf (framed (firstOf Host number) 2 payload) ≡ bytes)
-unfolding writeBytes
-written number payload bytes e =
-    let f = bytesOf (framed (firstOf Host number) 2 payload) in
-    let p = then-accepted (asMessage Host 2 payload) (λ m. refuseIf (not (directed Host (firstOf Host number))) 8 (accepted f)) bytes e in
-    let q = passed-not (directed Host (firstOf Host number)) 8 (accepted f) bytes (p .2) in
-    let d = within-both 129 255 (firstOf Host number) (q .0) in
-    ((omega (arith, d .0), omega (arith, d .1)), same (q .1))
-
 -- what carries a word has the bytes of a meter reply
 carried-by : (reply : List ℕ) (word number : ℕ) (m : Message Host) → read Host reply ≡ accepted (addressed number m) → wordFrom m ≡ accepted word
     → Carries reply word
-unfolding bytesOf
 carried-by reply word number (counted (dataFrom start [])) r e = absurd (not-accepted 8 word e)
 carried-by reply word number (counted (dataFrom start (high ∷ []))) r e = absurd (not-accepted 8 word e)
 carried-by reply word number (counted (dataFrom start (high ∷ low ∷ []))) r e =
-    let p = passed-not (eqb start 170) 8 (accepted (wordOf high low)) word e in
-    let w = written number (start ∷ high ∷ low ∷ []) reply (write-after-read-counted Host number (dataFrom start (high ∷ low ∷ [])) reply r) in
+    let p = passed-not (eqb start costRegister) 8 (accepted (wordOf high low)) word e in
+    let w = data-bytes number start (high ∷ low ∷ []) reply r in
     record {
       number = number;
       high = high;
       low = low;
       of-a-thermostat = w .0;
-      its-bytes = sym (w .1) ∙ ap (λ (n : ℕ). bytesOf (framed (firstOf Host number) 2 (n ∷ high ∷ low ∷ []))) (eqb-true start 170 (p .0));
+      its-bytes = w .1 ∙ ap (λ (n : ℕ). dataBytes number n (high ∷ low ∷ [])) (eqb-true start costRegister (p .0));
       its-word = sym (same (p .1));
     }
 carried-by reply word number (counted (dataFrom start (high ∷ low ∷ b ∷ values))) r e = absurd (not-accepted 8 word e)
@@ -108,12 +110,9 @@ carried reply word e =
 
 -- the bytes of a meter reply carry their word, from every thermostat
 pub meter-reply-read : (number high low : ℕ) → 1 ≤ number → number ≤ 127 → reading (meterReply number high low) ≡ accepted (wordOf high low)
-unfolding asMessage runAllowed
+unfolding runAllowed
 meter-reply-read number high low l m =
-    let d : directed Host (firstOf Host number) ≡ true = sym (as-number number l) ∙ le-leb number 127 m in
-    let w : write Host number (counted (dataFrom 170 (high ∷ low ∷ []))) ≡ accepted (meterReply number high low)
-    = write-summed Host number 2 (170 ∷ high ∷ low ∷ []) refl d 0x32 refl in
-    reading-when (meterReply number high low) _ (read-after-write Host number (counted (dataFrom 170 (high ∷ low ∷ []))) (meterReply number high low) w)
+    reading-when (meterReply number high low) _ (data-read number costRegister (high ∷ low ∷ []) l m (lit≤ tt) (lit≤ tt) refl)
 
 pub carries-read : (reply : List ℕ) (word : ℕ) → Carries reply word → reading reply ≡ accepted word
 carries-read reply word c =

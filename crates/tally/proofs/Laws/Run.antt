@@ -1,19 +1,18 @@
 -- Over any run of meter calls from 0 the record holds, after each call, the exact sum of the words accepted so far. Assumes nothing.
 use mathlib.Core.Path.{_≡_, refl, sym, ap, _∙_}
 use mathlib.Core.List.{List, [], _∷_, _++_}
-use mathlib.Core.Logic.{_⊎_, inl, inr}
-use Prim.Native.Nat.{ℕ, _+_, _-_, _^_, _<_, _≤_}
+use mathlib.Core.Logic.{⊎-elim}
+use Prim.Native.Nat.{ℕ, _+_, _-_, _^_, _≤_}
 use native.Mathlib.Nat.{add-zero, zero-add, add-assoc}
 use native.Mathlib.Omega.{arith}
 use lib.Dec.{lit≤}
 use Rattle.answer.specs.Answer.{Outcome, refused, accepted, andThen}
-use Rattle.answer.proofs.Laws.AtMost.{refused-at-most}
-use Rattle.answer.proofs.Laws.Test.{then-accepted}
+use Rattle.answer.proofs.Laws.Test.{not-accepted, then-accepted}
 use Rattle.tally.specs.Cost.{wordOf, millionths, power}
 use Rattle.tally.specs.Reading.{reading, meterReply, Carries}
 use Rattle.tally.specs.Total.{plusWord, nextTotal, keptAfter, totalAfter}
-use Rattle.tally.specs.Run.{Call, Promised, totalFound, valueTaken, sumAccepted}
-use Rattle.tally.proofs.Laws.Reading.{reading-refusals, carried, carries-read, meter-reply-read}
+use Rattle.tally.specs.Run.{Call, Promised, totalFound, valueTaken, sumAccepted, Refused-with, readers, other-message, past-the-largest}
+use Rattle.tally.proofs.Laws.Reading.{reading-refused, carried, carries-read, meter-reply-read}
 use Rattle.tally.proofs.Laws.Total.{next-when, taken, accepted-exact, refused-past}
 
 -- one reply: what the record gains is what the reply counts, by its answer
@@ -73,20 +72,20 @@ module _ (cs : List Call) (c : Call) (ds : List Call) (p : Promised 0 (cs ++ (c 
   pub refused-leaves : (n : ℕ) → c .answer ≡ refused n → c .total ≡ before
   refused-leaves n e = kept-by-answer ∙ ap (keptAfter before) e
 
-  -- a reply without a word is refused with what its reading says, and with no number above 8; one with a word with 11 alone, and only where
-  -- the exact sum would pass 2^64 - 1
-  pub refused-at-sum : (n : ℕ) → c .answer ≡ refused n
-      → ((reading (c .reply) ≡ refused n) × (n ≤ 8))
-      ⊎ ((word : ℕ) × (reading (c .reply) ≡ accepted word) × (n ≡ 11) × (2 ^ 64 - 1 < sumAccepted cs + millionths word))
+  -- the refusals: the reader's, no number above 8; 8, where the reader accepts and the reply carries no word; 11 where it carries one, and the
+  -- exact sum would pass 2^64 - 1
+  pub refused-at-sum : (n : ℕ) → c .answer ≡ refused n → Refused-with cs c n
   refused-at-sum n e = by-reading (reading (c .reply)) refl (sym answered-at-sum ∙ e)
     where
-      by-reading : (r : Outcome ℕ) → reading (c .reply) ≡ r → andThen r (plusWord (sumAccepted cs)) ≡ refused n
-          → ((reading (c .reply) ≡ refused n) × (n ≤ 8))
-          ⊎ ((word : ℕ) × (reading (c .reply) ≡ accepted word) × (n ≡ 11) × (2 ^ 64 - 1 < sumAccepted cs + millionths word))
-      by-reading (refused m) t h = inl (t ∙ h, refused-at-most 8 (reading (c .reply)) n (reading-refusals (c .reply)) (t ∙ h))
+      no-word : reading (c .reply) ≡ refused n → (word : ℕ) → Carries (c .reply) word → ⊥
+      no-word r word k = not-accepted n word (sym r ∙ carries-read (c .reply) word k)
+
+      by-reading : (r : Outcome ℕ) → reading (c .reply) ≡ r → andThen r (plusWord (sumAccepted cs)) ≡ refused n → Refused-with cs c n
+      by-reading (refused m) t h =
+          ⊎-elim (λ q. readers (q .0) (q .1)) (λ q. other-message (q .0) (q .1) (q .2) (no-word (t ∙ h))) (reading-refused (c .reply) n (t ∙ h))
       by-reading (accepted word) t h =
           let past = refused-past (sumAccepted cs) (millionths word) n h in
-          inr (word, t, past .0, past .1)
+          past-the-largest word (carried (c .reply) word t) (past .0) (past .1)
 
   -- a reply is taken only where it has the bytes of a meter reply, and the record then holds the sum with its word
   pub taken-at-sum : (next : ℕ) → c .answer ≡ accepted next
