@@ -133,8 +133,8 @@ pub record Temperatures : Type 0 where
       → (eq x (celsius cool) ≡ true) × (eq y (celsius heat) ≡ true)
 
 -- a meter call after others on a record that started at 0: a reply is taken only where it has the bytes of a meter reply, and its word is then
--- added; it is taken where the sum fits; else it is refused with the reader's number, with 8 or with 11, each where it should be; and a
--- refused call leaves the record as it was
+-- added; it is taken where the sum fits; what is refused is refused with the reader's number, with 8 where the reader accepts and no word is
+-- carried, with 11 where the sum would pass; and a refused call leaves the record as it was
 pub record Meter-call (before : List Call) (c : Call) : Type 0 where
   pub taken : (next : ℕ) → c .answer ≡ accepted next
       → (word : ℕ) × Carries (c .reply) word × (next ≡ sumAccepted before + millionths word) × (c .total ≡ sumAccepted before + millionths word)

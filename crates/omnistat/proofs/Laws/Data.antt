@@ -1,15 +1,15 @@
 -- The bytes of data at the host: what is read as data has them, and they are read so. Assumes nothing.
 use mathlib.Core.Path.{_≡_, refl, sym, ap, _∙_}
 use mathlib.Core.Bool.{true, not}
-use mathlib.Core.List.{List, [], _∷_}
-use Prim.Native.Nat.{ℕ, suc, _+_, _*_, _≤_}
+use mathlib.Core.List.{List, _∷_}
+use Prim.Native.Nat.{ℕ, _+_, _*_, _≤_}
 use native.Mathlib.Omega.{arith}
 use lib.ListN.{length}
 use borrow.Author.Tests.{le-leb}
 use Rattle.answer.specs.Answer.{accepted, refuseIf, onAccepted}
 use Rattle.answer.proofs.Laws.Test.{same, fails, passed-not, then-accepted}
 use Rattle.omnistat.specs.declared.frame.End.the-variants.{Host}
-use Rattle.omnistat.specs.Register.{within, runAllowed}
+use Rattle.omnistat.specs.Register.{runAllowed}
 use Rattle.omnistat.specs.Frame.{framed, bytesOf, directed, firstOf, summed}
 use Rattle.omnistat.specs.Message.{dataFrom, asMessage}
 use Rattle.omnistat.specs.Omnistat.{counted, addressedCounted, read, writeBytes}
