@@ -5,6 +5,7 @@
 # make fuzz SECONDS=..    the comparison with an independent implementation, on random inputs for so long
 # make floats setpoints_to_bytes on every f32 beside that implementation: some minutes, and no part of make test
 # make demo   the example gateway, examples/gateway.c, over two pseudo-terminals
+# make door   the login door of a controller, examples/door.c: a rehearsal over a pseudo-terminal
 # make run    the listing of a capture: make run < FILE; of samples/line.capture where standard input is a terminal
 # make install PREFIX=..  the program capture, the library, its header and a pkg-config file
 CC = gcc
@@ -16,7 +17,7 @@ CAPTURE = target/bin/capture
 TESTS = $(patsubst tests/c/%.c,target/tests/%,$(wildcard tests/c/*.c))
 BENCHES = $(patsubst bench/%.c,target/bench/%,$(filter-out bench/stack.c,$(wildcard bench/*.c)) bench/stack.c)
 
-.PHONY: test wrong lib bench ctest outside fuzz floats demo run install clean
+.PHONY: test wrong lib bench ctest outside fuzz floats demo door run install clean
 
 test:
 	@tests/run
@@ -42,6 +43,10 @@ target/tests/boost: tests/boost.cc include/gateway.h $(LIB)
 	$(CXX) -std=c++17 -O2 -Wall -Wextra -Werror -Iinclude -o $@ $< $(LIB)
 
 target/tests/rollover target/tests/readings: target/tests/%: tests/%.c examples/gateway.c include/gateway.h $(LIB)
+	@mkdir -p $(@D)
+	$(CC) $(CFLAGS) -o $@ $< $(LIB)
+
+target/tests/practice: tests/practice.c examples/door.c include/gateway.h $(LIB)
 	@mkdir -p $(@D)
 	$(CC) $(CFLAGS) -o $@ $< $(LIB)
 
@@ -71,6 +76,9 @@ target/examples/%: examples/%.c include/gateway.h $(LIB)
 
 demo: target/examples/gateway
 	@target/examples/gateway
+
+door: target/examples/door
+	@target/examples/door
 
 $(CAPTURE): crates.txt $(shell find crates -name '*.rt' -o -name '*.antt')
 	@rt check capture >&2 </dev/null

@@ -22,7 +22,7 @@ pub enum Refusal {
     // 7: length wrong for the type.
     TypeLength,
     // 8: a field outside its list; a text too long or with a wrong character, also in a text store; a capture's state that no
-    // pieces lead to, or not of 74 bytes; to a meter call a whole reply that is no meter reply.
+    // pieces lead to, or not of 74 bytes; to a meter call a whole reply that is no meter reply; to a door a secret or a state that is none.
     Field,
     // 9: lent output too short, a register map not of 256 bytes, or a text store not of 610.
     Room,
@@ -67,6 +67,13 @@ pub fn pack_nothing() -> u64
     ensures { λ n. ⌜ n ≡ packed (accepted []) ⌝ }
 {
     0
+}
+
+// A packed success of one byte.
+pub fn pack_byte(b: u8) -> u64
+    ensures { λ n. ⌜ n ≡ packed (accepted (byte b ∷ [])) ⌝ }
+{
+    (b as u64) * 256
 }
 
 // A packed success of two bytes.

@@ -13,4 +13,5 @@ pub mod Kinds
 pub mod Lists
 pub mod Packed
 pub mod RoundTrip
+pub mod Sized
 pub mod Written

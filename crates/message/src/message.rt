@@ -67,7 +67,7 @@ fn plain(f: Fixed, data: &[u8]) -> MessageRead
 }
 
 // Whether four digits are each 00 to 09.
-pub(crate) fn digits_listed(first: u8, second: u8, third: u8, fourth: u8) -> bool
+pub fn digits_listed(first: u8, second: u8, third: u8, fourth: u8) -> bool
     ensures { λ r. ⌜ r ≡ digitsListed first second third fourth ⌝ }
 {
     if 9 < first {
@@ -323,4 +323,16 @@ pub fn write(kind: u8, data: &[u8], out: &mut [u8]) -> Written
         return write_unless(check::plain(data), kind, data, out);
     }
     write_unless(check::fault(kind, data), kind, data, out)
+}
+
+// What the writer answers where there is room, with nothing written: 6, 7, 8, or the count of bytes.
+pub fn size(kind: u8, data: &[u8]) -> Written
+    ensures { λ r. ⌜ writtenOf r ≡ onAccepted length (writeMessage kind (now («data» .entry))) ⌝ }
+{
+    let fault = check::fault(kind, data);
+    if fault != check::NONE {
+        return Written::Refused(check::refusal(fault));
+    }
+    let count = data.len() as u32 + 5;
+    Written::Count(count)
 }

@@ -43,6 +43,16 @@ mod gateway {
         pub fn omnilink_text_message(bytes: *const u8, len: usize, i: usize) -> u64;
         pub fn omnilink_command(bytes: *const u8, len: usize) -> u64;
         pub fn omnilink_log_entry(bytes: *const u8, len: usize, field: usize) -> u64;
+        pub fn login_door(
+            secret: *const u8,
+            secret_len: usize,
+            state: *mut u8,
+            state_len: usize,
+            seconds: u64,
+            kind: u64,
+            data: *const u8,
+            len: usize,
+        ) -> u64;
         pub fn omnistat_read_at_thermostat(bytes: *const u8, len: usize) -> u64;
         pub fn omnistat_read_at_host(bytes: *const u8, len: usize) -> u64;
         pub fn omnistat_write_to_thermostat(
@@ -146,6 +156,10 @@ fn word(number: u16) -> u64 {
     above() << 16 | u64::from(number)
 }
 
+fn double_word(number: u32) -> u64 {
+    above() << 32 | u64::from(number)
+}
+
 // SAFETY, for all below: a `Lent` names open memory of its length or is empty, and no two of one call overlap.
 
 pub fn omnilink_frame_read(b: Lent) -> u64 {
@@ -186,6 +200,21 @@ pub fn omnilink_command(b: Lent) -> u64 {
 
 pub fn omnilink_log_entry(b: Lent, field: usize) -> u64 {
     unsafe { gateway::omnilink_log_entry(b.pointer, b.len, field) }
+}
+
+pub fn login_door(secret: Lent, state: Lent, seconds: u32, kind: u8, data: Lent) -> u64 {
+    unsafe {
+        gateway::login_door(
+            secret.pointer,
+            secret.len,
+            state.pointer,
+            state.len,
+            double_word(seconds),
+            byte(kind),
+            data.pointer,
+            data.len,
+        )
+    }
 }
 
 pub fn omnistat_read_at_thermostat(b: Lent) -> u64 {

@@ -16,6 +16,7 @@ pub enum Call {
     TextMessage,
     Command,
     LogEntry,
+    Door,
     ReadAtThermostat,
     ReadAtHost,
     WriteToThermostat,
@@ -42,7 +43,7 @@ const MESSAGE_READER: &[u8] = &[1, 2, 3, 4, 5, 6, 7, 8];
 const OMNISTAT_READER: &[u8] = &[1, 2, 4, 5, 6, 7, 8];
 
 /// The calls in the order of `Call`, each with the refusals that documents 01 and 02 name for it.
-pub const CALLS: [(&str, &[u8]); 29] = [
+pub const CALLS: [(&str, &[u8]); 30] = [
     ("omnilink_frame_read", &[1, 2, 3, 4, 5]),
     ("omnilink_frame_write", &[3, 9]),
     ("omnilink_message_read", MESSAGE_READER),
@@ -52,6 +53,7 @@ pub const CALLS: [(&str, &[u8]); 29] = [
     ("omnilink_text_message", MESSAGE_READER),
     ("omnilink_command", MESSAGE_READER),
     ("omnilink_log_entry", MESSAGE_READER),
+    ("login_door", &[6, 7, 8]),
     ("omnistat_read_at_thermostat", OMNISTAT_READER),
     ("omnistat_read_at_host", OMNISTAT_READER),
     ("omnistat_write_to_thermostat", &[6, 7, 8, 9]),
@@ -84,7 +86,9 @@ pub struct Compare {
     output: Region,
     map: Region,
     texts: Region,
-    capture: Region,
+    /// For the state of a capture or of a door.
+    state: Region,
+    secret: Region,
     random: Random,
     /// Where the content of a lent output before the call is taken from.
     prior: Vec<u8>,
@@ -119,7 +123,8 @@ impl Compare {
             output: Region::new(PRIOR / 4096 + 1, random.next()),
             map: Region::new(1, random.next()),
             texts: Region::new(1, random.next()),
-            capture: Region::new(1, random.next()),
+            state: Region::new(1, random.next()),
+            secret: Region::new(1, random.next()),
             prior: random.bytes(PRIOR),
             random,
             counts: [[0; 12]; CALLS.len()],
@@ -135,7 +140,8 @@ impl Compare {
         self.output.reseed(self.random.next());
         self.map.reseed(self.random.next());
         self.texts.reseed(self.random.next());
-        self.capture.reseed(self.random.next());
+        self.state.reseed(self.random.next());
+        self.secret.reseed(self.random.next());
         calls::reseed(self.random.next());
         self.prior = self.random.bytes(PRIOR);
     }
@@ -308,6 +314,61 @@ impl Compare {
         self.text_message(bytes, i);
         self.command(bytes);
         self.log_entry(bytes, i);
+    }
+
+    /// Lends the state of a door, for a run on it.
+    pub fn lend_state(&mut self, state: &[u8]) -> Lent {
+        self.state.lend(state)
+    }
+
+    /// A message at a door whose state is lent; `state` is changed as the documents say. Tells whether both agree.
+    pub fn door_on(
+        &mut self,
+        lent: Lent,
+        secret: &[u8],
+        state: &mut Vec<u8>,
+        seconds: u32,
+        kind: u8,
+        data: &[u8],
+    ) -> bool {
+        let before = state.clone();
+        let lent_secret = self.secret.lend(secret);
+        let lent_data = self.input.lend(data);
+        let name = CALLS[Call::Door as usize].0;
+        guard::announce(name, lent_data, self.passed, self.failed);
+        let got = calls::login_door(lent_secret, lent, seconds, kind, lent_data);
+        let right = paper::login_door(secret, state, seconds, kind, data);
+        let right = valued(right.map(u64::from));
+        let same = self.state.holds(lent, state, &[])
+            && self.secret.holds(lent_secret, secret, &[])
+            && self.input.holds(lent_data, data, &[]);
+        let agrees = got == right && same;
+        let told = if agrees {
+            String::new()
+        } else {
+            let (secret, data) = (hex(secret), hex(data));
+            let (before, state) = (hex(&before), hex(state));
+            let after = hex(&self.state.content(lent));
+            format!(
+                "secret {secret}, state {before}, seconds {seconds}, type {kind:02X}, data {data}, \
+                 expected {right:#X} and {state}, got {got:#X} and {after}, memory right {same}"
+            )
+        };
+        self.judge(Call::Door, right, agrees, || told);
+        agrees
+    }
+
+    /// One message at a door.
+    pub fn door(
+        &mut self,
+        secret: &[u8],
+        state: &mut Vec<u8>,
+        seconds: u32,
+        kind: u8,
+        data: &[u8],
+    ) {
+        let lent = self.lend_state(state);
+        self.door_on(lent, secret, state, seconds, kind, data);
     }
 
     pub fn read_at_thermostat(&mut self, bytes: &[u8]) {
@@ -560,13 +621,13 @@ impl Compare {
         let prior = &self.prior[from..from + room];
         let lent = self.input.lend(bytes);
         let out = self.output.lend(prior);
-        let state = self.capture.lend(before);
+        let state = self.state.lend(before);
         guard::announce(CALLS[call as usize].0, lent, self.passed, self.failed);
         let got = run(state, lent, out);
         let written = right.as_deref().unwrap_or(&[]);
         let right = valued(right.as_ref().map(|w| w.len() as u64).map_err(|&n| n));
         let same = self.output.holds(out, written, &prior[written.len()..])
-            && self.capture.holds(state, after, &[])
+            && self.state.holds(state, after, &[])
             && self.input.holds(lent, bytes, &[]);
         let agrees = got == right && same;
         let mut output = self.output.content(out);
@@ -575,7 +636,7 @@ impl Compare {
         } else {
             let (before, after, input) = (hex(before), hex(after), hex(bytes));
             let (prior, written) = (hex(prior), hex(written));
-            let (state, output) = (hex(&self.capture.content(state)), hex(&output));
+            let (state, output) = (hex(&self.state.content(state)), hex(&output));
             format!(
                 "state {before}, piece {input}, output before {prior}, expected {right:#X} {written}, state {after}, \
                  got {got:#X}, output {output}, state {state}"

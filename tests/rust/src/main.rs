@@ -6,6 +6,7 @@
 
 mod calls;
 mod compare;
+mod door;
 mod guard;
 mod inputs;
 mod paper;
@@ -21,7 +22,7 @@ use std::time::{Duration, Instant, SystemTime, UNIX_EPOCH};
 const SEEDS: [u64; 3] = [1, 2, 3];
 /// Rounds of random inputs for each seed where no time is given.
 const ROUNDS: u64 = 60_000;
-/// One round in this many also lists captures, whole and in pieces.
+/// One round in this many also lists captures, whole and in pieces, and runs a door.
 const LISTING: u64 = 64;
 
 struct Arguments {
@@ -79,6 +80,7 @@ fn random_part(compare: &mut Compare, random: &mut Random, seconds: Option<u64>)
         let size = random.from(size, size + 100);
         inputs::listings(compare, random, size);
         pieces::random_cutting(compare, random, size);
+        door::random_run(compare, random);
         round += LISTING;
     }
 }

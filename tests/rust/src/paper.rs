@@ -208,6 +208,122 @@ pub fn log_entry(bytes: &[u8], field: usize) -> Answer<u16> {
     }
 }
 
+// K6: the bytes of a secret and of a door's state.
+pub const DOOR_SECRET: usize = 4;
+pub const DOOR_STATE: usize = 4;
+
+// K6: the seconds without a message that log out, and those of a shut-out.
+const SILENCE: u32 = 180;
+const SHUT_OUT: u32 = 3600;
+
+// K6: whether somebody is logged in, and what stands against logins.
+struct Door {
+    logged_in: bool,
+    logins: Logins,
+}
+
+// K6: the wrong logins in a row, at most two; or all logins are shut out for so many seconds more, at least one.
+enum Logins {
+    Wrong(u8),
+    ShutOut(u32),
+}
+
+impl Door {
+    // K6: the state that bytes stand for.
+    fn new(bytes: &[u8]) -> Answer<Door> {
+        require(bytes.len() == DOOR_STATE, FIELD)?;
+        let logged_in = match bytes[0] {
+            0 => false,
+            1 => true,
+            _ => return Err(FIELD),
+        };
+        let left = 256 * u32::from(bytes[2]) + u32::from(bytes[3]);
+        let logins = match (bytes[1], left) {
+            (count @ 0..=2, 0) => Logins::Wrong(count),
+            (0, 1..=SHUT_OUT) => Logins::ShutOut(left),
+            _ => return Err(FIELD),
+        };
+        Ok(Door { logged_in, logins })
+    }
+
+    fn bytes(&self) -> Vec<u8> {
+        let (count, left) = match self.logins {
+            Logins::Wrong(count) => (count, 0),
+            Logins::ShutOut(left) => (0, left),
+        };
+        let (high, low) = ((left / 256) as u8, (left % 256) as u8);
+        vec![u8::from(self.logged_in), count, high, low]
+    }
+
+    // K6: whole seconds since the last message. A shut-out that has passed leaves a count of none.
+    fn wait(&mut self, seconds: u32) {
+        if seconds >= SILENCE {
+            self.logged_in = false;
+        }
+        if let Logins::ShutOut(left) = self.logins {
+            self.logins = if seconds < left {
+                Logins::ShutOut(left - seconds)
+            } else {
+                Logins::Wrong(0)
+            };
+        }
+    }
+
+    // K6: a login, right or wrong. Gives the answer.
+    fn login(&mut self, right: bool) -> u8 {
+        match (&self.logins, right) {
+            (Logins::ShutOut(_), _) => 0x06,
+            (Logins::Wrong(_), true) => {
+                self.logged_in = true;
+                self.logins = Logins::Wrong(0);
+                0x05
+            }
+            (Logins::Wrong(2), false) => {
+                self.logins = Logins::ShutOut(SHUT_OUT);
+                0x06
+            }
+            (Logins::Wrong(count), false) => {
+                self.logins = Logins::Wrong(count + 1);
+                0x06
+            }
+        }
+    }
+
+    // K6: any other message. Gives the answer, 0 where the message is passed on.
+    fn other(&mut self, kind: u8) -> u8 {
+        match (self.logged_in, kind) {
+            (false, _) => 0x06,
+            (true, 0x05) => 0x05,
+            (true, 0x21) => {
+                self.logged_in = false;
+                0x05
+            }
+            (true, _) => 0,
+        }
+    }
+}
+
+// K6: one message at the door, so many seconds after the last. Changes the state and gives the answer.
+pub fn login_door(
+    secret: &[u8],
+    state: &mut Vec<u8>,
+    seconds: u32,
+    kind: u8,
+    data: &[u8],
+) -> Answer<u8> {
+    require(secret.len() == DOOR_SECRET, FIELD)?;
+    require(secret.iter().all(|&digit| digit <= 9), FIELD)?;
+    let mut door = Door::new(state)?;
+    message_check(kind, data)?;
+    door.wait(seconds);
+    let answer = match kind {
+        0x20 => door.login(data == secret),
+        _ => door.other(kind),
+    };
+    *state = door.bytes();
+    Ok(answer)
+}
+
 /// An Omnistat2 message: its first byte (at the host the number of the thermostat), its type and what it carries.
 #[derive(Debug, PartialEq)]
 pub struct Omnistat<'a> {

@@ -2,6 +2,7 @@
 
 use crate::calls;
 use crate::compare::{Call, Compare};
+use crate::door;
 use crate::guard::{Long, Region};
 use crate::inputs::{self, OMNILINK_TYPES, SPECIAL};
 use crate::paper::{self, Body, Omnistat, State};
@@ -17,6 +18,7 @@ pub fn all(compare: &mut Compare, random: &mut Random) {
     messages(compare, random);
     fields(compare);
     commands(compare);
+    door::all(compare, random);
     omnistat(compare, random);
     texts(compare, random);
     text_writers(compare, random);
@@ -838,7 +840,10 @@ fn long_inputs(compare: &mut Compare) {
     let tally = record.lend_aligned(&[0; 8], 8);
     let b = long.lend(&paper::meter_reply(1, 34567));
     compare.answer(Call::MeterAdd, calls::meter_add(tally, b), 4);
-    compare.fact("a long reply leaves the tally", record.holds(tally, &[0; 8], &[]));
+    compare.fact(
+        "a long reply leaves the tally",
+        record.holds(tally, &[0; 8], &[]),
+    );
     let b = long.lend(&paper::omnistat_text(0x01, 1, 0, 175, b"low"));
     let got = calls::omnistat_read_at_thermostat(b);
     compare.answer(Call::ReadAtThermostat, got, 4);
@@ -868,6 +873,16 @@ fn long_inputs(compare: &mut Compare) {
     compare.answer(Call::WriteTextToThermostat, got, 8);
     let got = calls::omnistat_write_text_to_host([1, 0, 175], b, out);
     compare.answer(Call::WriteTextToHost, got, 8);
+    let (mut first, mut second) = (Region::new(1, 0), Region::new(1, 0));
+    let (secret, door) = (first.lend(&[0; 4]), second.lend(&[0; 4]));
+    let got = calls::login_door(secret, door, 0, 0x05, b);
+    compare.answer(Call::Door, got, 7);
+    let b = long.lend(&[0; 4]);
+    compare.answer(Call::Door, calls::login_door(secret, door, 0, 0x20, b), 7);
+    compare.answer(Call::Door, calls::login_door(b, door, 0, 0x20, secret), 8);
+    compare.answer(Call::Door, calls::login_door(secret, b, 0, 0x20, secret), 8);
+    let kept = second.holds(door, &[0; 4], &[]) && long.first().iter().all(|&b| b == 0);
+    compare.fact("long lengths leave a door's state", kept);
     let long_map = long.lend(&[0; 256]);
     let poll = Region::new(1, 0).lend(&paper::omnistat(0x01, 2, &[]));
     let got = calls::thermostat_step(1, long_map, texts, poll, out);

@@ -8,7 +8,7 @@ use lib.ListN.{length, getD, take, drop}
 use lib.Pow.{areBytes}
 use lib.Seq.{take-at, getD-at, getD-append-add}
 use borrow.Author.Tests.{eq-eqb, ltb-false, le-ltb}
-use Rattle.answer.specs.Answer.{Outcome, refused, accepted}
+use Rattle.answer.specs.Answer.{Outcome, refused, accepted, onAccepted}
 use Rattle.answer.proofs.Laws.Test.{passed}
 use Rattle.crc.specs.Crc.{crc}
 use Rattle.crc.proofs.Laws.Bits.{byte-at}
@@ -81,3 +81,8 @@ pub write-after-read : (s : List ℕ) (f : Frame) → T (areBytes s) → readFra
 unfolding writeFrame
 write-after-read s f t e =
     simp (le-ltb 64 (length (f .bytes)) (few s f e)) (ap accepted (crc-bytes s f t e))
+
+-- up to 64 data bytes are written, and 5 bytes besides
+pub size-written : (kind : ℕ) (d : List ℕ) → length d ≤ 64 → onAccepted length (writeFrame kind d) ≡ accepted (length d + 5)
+unfolding writeFrame
+size-written kind d small = simp (le-ltb 64 (length d) small) (ap accepted (frame-length kind d))

@@ -1,0 +1,2 @@
+-- The laws of the login door.
+pub mod Laws
