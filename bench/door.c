@@ -1,5 +1,5 @@
 /* The login door: logins, messages with and without a session, sessions, and a refused login. A row has many doors, so that no call
-   waits for the state that the one before it left. */
+   waits for the state that the one before it left, but for the row of whole sessions. */
 #include "bench.h"
 #include "gateway.h"
 #include "message.h"

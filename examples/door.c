@@ -1,6 +1,6 @@
 /* The login door of an Omni-Link controller, to practise at. On a serial line it is the controller's end: it reads frames,
-   answers 05 or 06 as frames, and prints a line for each: the seconds since the last accepted message, what came, what was
-   answered, and the state of the door.
+   answers 05 or 06 as frames, and prints a line for each: the seconds given with it, what came, what was answered, and the state
+   of the door. The line must not hand back what is sent on it: the door would answer its own answers.
 
        door LINE SECRET    a serial line or pseudo-terminal, and the four digits of the right login; until the line hangs up
        door                the rehearsal
@@ -140,7 +140,7 @@ static unsigned seconds_left(const struct door *d)
 
 /* The whole seconds to give with a message: those of the silence since the last accepted one. In a shut-out the milliseconds that
    earlier messages left over count too, else each message would make it longer; but they end no session: only a silence of 180
-   seconds does. */
+   seconds does, and what is then left over waits for the next message. */
 static uint32_t whole_seconds(uint64_t silence, uint64_t rest)
 {
     bool lasts = silence < SILENCE && silence + rest >= SILENCE;

@@ -33,7 +33,8 @@ enum gateway_answer {
     GATEWAY_TYPE_LENGTH = 7,  /* length wrong for the type */
     GATEWAY_FIELD = 8,        /* a field outside its list; a text of more than 60 characters or with a wrong one, also in a
                                  text store; a capture's state that no pieces lead to, or not of 74 bytes; to meter_add a
-                                 whole reply that is no meter reply; a door's secret or state that is none */
+                                 whole reply that is no meter reply; a door's secret with a digit above 9, its state outside
+                                 its ranges, or either not of 4 bytes */
     GATEWAY_ROOM = 9,         /* lent output too short (for a step: under 65 bytes; for a piece: for the lines of this call), a
                                  register map not of 256 bytes, or a text store not of 610 */
     /* 10 is retired by change request K4 and not used again: it stood for a cost word above 65025; every word is a cost now */
@@ -113,25 +114,32 @@ uint64_t omnilink_command(const uint8_t *bytes, size_t len);
    5 minute, 6 event type, 7 parameter 1, 8 parameter 2 as one word. */
 uint64_t omnilink_log_entry(const uint8_t *bytes, size_t len, size_t field);
 
-/* The login door: a controller's own, simulated, so that logins can be practised. */
+/* The login door: a controller's own, simulated, so that logins can be practised. Types are hex here too: a login is type 20, a
+   logout 21. */
 
-/* The bytes of a secret, four digits, each 0 to 9; and of a door's state: logged in (1: 0 or 1), wrong logins counted (1: 0 to
-   2), and the seconds that all logins stay shut out (2, high byte first: 0 to 3,600), of which the last two are not both above
-   0. A state starts as zero bytes: logged out, none counted. */
-enum { DOOR_SECRET = 4, DOOR_STATE = 4 };
+/* The bytes of a secret: four digits, each as its value, 0 to 9. */
+enum { DOOR_SECRET = 4 };
 
-/* Takes the message of a type and len data bytes, so many whole seconds after the last message that was accepted, and changes the
-   state. secret has DOOR_SECRET bytes, state has DOOR_STATE.
+/* The bytes of a door's state: logged in (1: 0 or 1); wrong logins counted (1: 0 to 2); the seconds left of a shut-out (2, high byte
+   first: 0 to 3,600). There is never both a count and seconds left. A state starts as zero bytes: logged out, none counted. */
+enum { DOOR_STATE = 4 };
+
+/* Takes the message of a type and len data bytes, so many whole seconds after the last call that was accepted, and changes the state.
+   secret has DOOR_SECRET bytes, state has DOOR_STATE.
    Accepted: answer (8): the type 05 or 06 of what the controller answers, or 0 where the message is passed on.
-   Refused, with the state unchanged: 8 a secret or a state that is none, or not of its size; then as omnilink_message_write
-   refuses the message: 6 unknown type; 7 length; 8 a field. After a refused call give its seconds again with the next.
-   First the seconds pass: 180 or more log out, and they are taken off the seconds of a shut-out. Then the message is judged:
-   - a login (type 20) during a shut-out gets 06 and does not count;
-   - a right login gets 05, logs in, and clears the count, as nothing else does;
-   - a wrong login gets 06 and is counted, and neither logs in nor out; the third in a row leaves a count of 0 and 3,600 seconds
-     of shut-out;
-   - any other message gets 06 where nobody is logged in; else 05 gets 05, a logout (21) gets 05 and logs out, and every other
-     type is passed on, 06 too.
+   Refused, with the state unchanged: 8 a secret with a digit above 9, a state outside its ranges, or either not of its size; then
+   as omnilink_message_write refuses the message: 6 unknown type; 7 length; 8 a field.
+   First the seconds pass: 180 or more log out, and they are taken off those left of a shut-out. Then the message is judged:
+   - a login during a shut-out gets 06, the right one too, and does not count;
+   - else a right login gets 05, logs in and makes the count 0;
+   - a wrong login gets 06 and is counted, and neither logs in nor out; the third in a row makes the count 0 and leaves 3,600
+     seconds of a shut-out;
+   - any other message gets 06 where nobody is logged in; else 05 gets 05, a logout gets 05 and logs out, and every other type is
+     passed on, 06 too. A count stays through all of them, and through any silence.
+   A refused call changes nothing: the seconds count on from the last accepted one. With the first call any number will do. Whole
+   seconds drop a fraction at each accepted call: a host that is sent a message every 900 ms would give 0 each time, and a shut-out
+   would never end. So keep the fractions of a shut-out and give them once they make a second; but 180 are given only for 180 seconds
+   of silence, since they end a session.
    With the secret 1 2 3 4, the fresh state 00 00 00 00 and 0 seconds, a login 1 2 3 5 is answered 06 and leaves 00 01 00 00; then
    1 2 3 4 is answered 05 and leaves 01 00 00 00. */
 uint64_t login_door(const uint8_t *secret, size_t secret_len, uint8_t *state, size_t state_len, uint32_t seconds, uint8_t type,

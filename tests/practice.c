@@ -4,7 +4,8 @@
                                        send at once, +MS is a pause, = awaits an answer and prints it. Then it prints what else
                                        came, hangs up, and prints what the program printed and its exit status
        practice seconds MS...          gives the door an acknowledge after each of these times, in a session during a shut-out,
-                                       of which 3,600 seconds are left at first */
+                                       of which 3,600 seconds are left at first
+       practice logins MS...           gives it a login after each of these times, at first three wrong ones, then right ones */
 #define main door_main
 #include "../examples/door.c"
 #undef main
@@ -117,14 +118,28 @@ static void give_seconds(int count, char **ms)
     }
 }
 
+static void give_logins(int count, char **ms)
+{
+    struct door door = {.fd = open("/dev/null", O_WRONLY), .clock = rehearsal_clock, .secret = {1, 2, 3, 4}};
+    for (int i = 0; i < count; i++) {
+        const uint8_t digits[] = {1, 2, 3, i < 3 ? 5 : 4};
+        rehearsal_time += strtoul(ms[i], NULL, 10);
+        judge(&door, 0x20, digits, sizeof digits);
+    }
+}
+
 int main(int argc, char **argv)
 {
     if (argc > 2 && strcmp(argv[1], "seconds") == 0) {
         give_seconds(argc - 2, argv + 2);
         return 0;
     }
+    if (argc > 2 && strcmp(argv[1], "logins") == 0) {
+        give_logins(argc - 2, argv + 2);
+        return 0;
+    }
     if (argc < 3) {
-        fprintf(stderr, "use: practice DOOR SECRET STEP... | practice seconds MS...\n");
+        fprintf(stderr, "use: practice DOOR SECRET STEP... | practice seconds MS... | practice logins MS...\n");
         return 1;
     }
     int technician = open_technician();

@@ -430,7 +430,7 @@ static void transitions(void)
 /* Every state there is, with the seconds that matter to it. */
 static void every_state(void)
 {
-    const struct message *const kinds[] = {&right, &wrong, &logout};
+    const struct message *const kinds[] = {&right, &wrong, &logout, &acknowledge, &negative, &command};
     for (uint32_t in = FRESH; in <= IN; in += IN) {
         for (uint32_t left = 0; left <= SHUT_OUT; left++) {
             const uint32_t times[] = {0, 179, 180, left == 0 ? 1 : left - 1, left};
@@ -443,7 +443,7 @@ static void every_state(void)
     }
 }
 
-/* Every number of seconds up to some hours, on a session and on a shut-out. */
+/* Every number of seconds up to 8,000, on a session and on a shut-out. */
 static void every_second(void)
 {
     for (uint32_t seconds = 0; seconds <= 8000; seconds++) {
@@ -638,7 +638,7 @@ static void asked_of_both(uint8_t type, const uint8_t *data, size_t n)
     }
 }
 
-/* Every type at every length; each data byte of each readable type at each of its values. */
+/* Every type at every length; each data byte of each readable type at each of its values, of lists the shortest and the longest. */
 static void refused_messages(void)
 {
     for (unsigned type = 0; type <= 255; type++) {
@@ -650,7 +650,7 @@ static void refused_messages(void)
     }
     for (size_t i = 0; i < message_count; i++) {
         struct message m = messages[i];
-        if (m.type == EVENTS || (m.type == ZONES && m.len > 4 && m.len < 64) || (m.type == LOGIN && i > 0)) {
+        if (((m.type == EVENTS || m.type == ZONES) && m.len > 4 && m.len < 64) || (m.type == LOGIN && i > 0)) {
             continue;
         }
         for (size_t at = 0; at < m.len; at++) {

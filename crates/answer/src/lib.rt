@@ -22,7 +22,8 @@ pub enum Refusal {
     // 7: length wrong for the type.
     TypeLength,
     // 8: a field outside its list; a text too long or with a wrong character, also in a text store; a capture's state that no
-    // pieces lead to, or not of 74 bytes; to a meter call a whole reply that is no meter reply; to a door a secret or a state that is none.
+    // pieces lead to, or not of 74 bytes; to a meter call a whole reply that is no meter reply; a door's secret or
+    // state outside its ranges, or not of 4 bytes.
     Field,
     // 9: lent output too short, a register map not of 256 bytes, or a text store not of 610.
     Room,

@@ -6,7 +6,7 @@ use crate::state::State;
 ghost use mathlib.Core.Path.{_≡_};
 ghost use Prim.Native.Nat.{_-_};
 ghost use lib.ListN.{length};
-ghost use Rattle.door.specs.Door.{session, passed, sameDigits, counted, onLogin, onOther, judge};
+ghost use Rattle.door.specs.Door.{session, elapsed, sameDigits, wrongLogin, onLogin, onOther, judge};
 
 // What is answered to a message, and the state that it leaves.
 pub struct Judged {
@@ -34,7 +34,7 @@ fn session(seconds: u32, logged_in: bool) -> bool
 }
 
 // What is left of a shut-out after so many seconds.
-fn less(seconds: u32, left: u16) -> u16
+fn left_after(seconds: u32, left: u16) -> u16
     ensures { λ r. ⌜ r ≡ left - seconds ⌝ }
 {
     if seconds < left as u32 {
@@ -43,14 +43,14 @@ fn less(seconds: u32, left: u16) -> u16
     0
 }
 
-// Whole seconds pass.
-pub(crate) fn passed(seconds: u32, st: State) -> State
-    ensures { λ r. ⌜ r ≡ passed seconds st ⌝ }
+// The state after whole seconds.
+pub(crate) fn elapsed(seconds: u32, st: State) -> State
+    ensures { λ r. ⌜ r ≡ elapsed seconds st ⌝ }
 {
     State {
         logged_in: session(seconds, st.logged_in),
         wrong: st.wrong,
-        left: less(seconds, st.left),
+        left: left_after(seconds, st.left),
     }
 }
 
@@ -68,8 +68,8 @@ fn same_digits(secret: &[u8], digits: &[u8]) -> bool
 }
 
 // The state after a wrong login.
-fn counted(st: State) -> State
-    ensures { λ r. ⌜ r ≡ counted st ⌝ }
+fn wrong_login(st: State) -> State
+    ensures { λ r. ⌜ r ≡ wrongLogin st ⌝ }
 {
     if st.wrong < MOST_WRONG {
         return State {
@@ -106,7 +106,7 @@ fn on_login(right: bool, st: State) -> Judged
     }
     Judged {
         reply: Reply::NegativeAcknowledge,
-        state: counted(st),
+        state: wrong_login(st),
     }
 }
 

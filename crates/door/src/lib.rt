@@ -14,6 +14,7 @@ pub enum Reply {
     PassedOn,
 }
 
+// What a call answers: what the door answers, or the refusal.
 pub enum Answered {
     Reply(Reply),
     Refused(Refusal),
@@ -34,7 +35,7 @@ pub fn step(secret: &[u8], state: &mut [u8], seconds: u32, kind: u8, data: &[u8]
     match message::message::size(kind, data) {
         Written::Refused(r) => Answered::Refused(r),
         Written::Count(_) => {
-            let before = judge::passed(seconds, state::state_of(state));
+            let before = judge::elapsed(seconds, state::state_of(state));
             let judged = judge::judge(secret, kind, data, before);
             let next = judged.state;
             let reply = judged.reply;

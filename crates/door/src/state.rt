@@ -1,7 +1,6 @@
 // The secret, four digits; and the lent state, 4 bytes: logged in (1), wrong logins counted (1), seconds left of a shut-out (2, high byte
 // first).
 ghost use mathlib.Core.Path.{_≡_};
-ghost use mathlib.Core.Bool.{true};
 ghost use lib.ListN.{length};
 ghost use Rattle.door.specs.State.{isSecret, secondsLeft, isState, stateOf, stateBytes};
 

@@ -1,6 +1,6 @@
 -- The secret and the lent state: what their bytes say, and the bytes of a state. Assumes nothing.
 use Prim.Native.Nat.{ℕ, _+_, _*_, _/_, _%_, _≤_}
-use mathlib.Core.Path.{_≡_, refl, ap, _∙_}
+use mathlib.Core.Path.{_≡_, refl, sym, ap, _∙_}
 use mathlib.Core.Bool.{Bool, true, false, _&&_, _||_}
 use mathlib.Core.List.{List, [], _∷_}
 use mathlib.Core.Logic.{_⊎_, inl, inr}
@@ -10,7 +10,7 @@ use lib.ListN.{length, getD, set}
 use borrow.Author.Tests.{eqb-true, eq-eqb, leb-true, le-leb}
 use Rattle.answer.specs.Bit.{bit}
 use Rattle.message.specs.Message.{digitsListed}
-use Rattle.message.proofs.Laws.Checked.{both, never}
+use Rattle.message.proofs.Laws.Checked.{both}
 use Rattle.door.specs.State.{mostWrong, shutOut, isSecret, secondsLeft, isState, stateOf, stateBytes}
 use Rattle.door.specs.declared.state.State.{State}
 
@@ -19,6 +19,19 @@ pub secret-digits : (s : List ℕ) → isSecret s ≡ true
     → (length s ≡ 4) × (digitsListed (getD s 0 0) (getD s 1 0) (getD s 2 0) (getD s 3 0) ≡ true)
 unfolding isSecret
 secret-digits s e = let p = both e in (eqb-true (length s) 4 (p .0), p .1)
+
+-- four digits that are the same, one by one
+pub same-four : (s d : List ℕ) → length s ≡ 4 → length d ≡ 4 → getD s 0 0 ≡ getD d 0 0 → getD s 1 0 ≡ getD d 1 0 → getD s 2 0 ≡ getD d 2 0 → getD s 3 0 ≡ getD d 3 0
+    → d ≡ s
+same-four s d four also a b c e = four-listed d also ∙ (λ i. sym a i ∷ sym b i ∷ sym c i ∷ sym e i ∷ []) ∙ sym (four-listed s four)
+  where
+    four-listed : (s : List ℕ) → length s ≡ 4 → s ≡ getD s 0 0 ∷ getD s 1 0 ∷ getD s 2 0 ∷ getD s 3 0 ∷ []
+    four-listed [] h = let z : ⊥ = omega arith in absurd z
+    four-listed (p ∷ []) h = let z : ⊥ = omega arith in absurd z
+    four-listed (p ∷ q ∷ []) h = let z : ⊥ = omega arith in absurd z
+    four-listed (p ∷ q ∷ r ∷ []) h = let z : ⊥ = omega arith in absurd z
+    four-listed (p ∷ q ∷ r ∷ s ∷ []) h = refl
+    four-listed (p ∷ q ∷ r ∷ s ∷ t ∷ l) h = let z : ⊥ = omega arith in absurd z
 
 -- ---- what is left in the lent bytes
 

@@ -10,7 +10,7 @@ use Rattle.answer.specs.declared.Written.{Written}
 use Rattle.message.proofs.Laws.Sized.{login-length}
 use Rattle.message.specs.Message.{writeMessage}
 use Rattle.door.specs.State.{isSecret, isState, stateOf}
-use Rattle.door.specs.Door.{passed, judge}
+use Rattle.door.specs.Door.{elapsed, judge}
 use Rattle.door.proofs.Laws.State.{secret-digits, state-length}
 use Rattle.door.proofs.Laws.Door.{leaves, no-secret, no-state, no-message, by-message}
 use Rattle.door.proofs.step.Statement.{statement}
@@ -74,15 +74,15 @@ state-of-requires c κs =
     let at = c .before .before .before in
     state-length (now (started at .args .state)) (taken (at .before))
 
-passed-requires : tie.Need-passed-requires
-passed-requires c κs = search needs
+elapsed-requires : tie.Need-elapsed-requires
+elapsed-requires c κs = search needs
 
 judge-requires : tie.Need-judge-requires
 judge-requires c κs =
-    let at = c .before .before .before in
-    let a = started (at .before .before) .args in (
-      secret-digits (now (a .secret)) (is-one (told (at .before .before .before .before))) .0,
-      λ is. login-length (now (a .«data»)) _ (sized at ∙ ap (λ (k : ℕ). onAccepted length (writeMessage k (now (a .«data»)))) is),
+    let sent = c .before .before .before in
+    let a = started (sent .before .before) .args in (
+      secret-digits (now (a .secret)) (is-one (told (sent .before .before .before .before))) .0,
+      λ is. login-length (now (a .«data»)) _ (sized sent ∙ ap (λ (k : ℕ). onAccepted length (writeMessage k (now (a .«data»)))) is),
     )
 
 put-requires : tie.Need-put-requires
@@ -112,8 +112,8 @@ returns-4 c =
     let secret = now (a .secret) in
     let lent = now (a .state) in
     let d = now (a .«data») in
-    let same : judged .judge .result ≡ judge secret (a .kind) d (passed (a .seconds) (stateOf lent)) =
-    judged .judge .ensures ∙ ap (judge secret (a .kind) d) (judged .before .passed .ensures ∙ ap (passed (a .seconds)) (judged .before .before .state-of .ensures)) in
+    let same : judged .judge .result ≡ judge secret (a .kind) d (elapsed (a .seconds) (stateOf lent)) =
+    judged .judge .ensures ∙ ap (judge secret (a .kind) d) (judged .before .elapsed .ensures ∙ ap (elapsed (a .seconds)) (judged .before .before .state-of .ensures)) in
     let l = leaves secret lent (a .seconds) (a .kind) d (accepted (judged .judge .result))
     (by-message secret lent (a .seconds) (a .kind) d (is-one (told (size .before .before))) (taken (size .before)) _ (sized at) ∙ ap accepted (sym same)) in
     (l .0, c .before .before .put .ensures ∙ l .1)
@@ -131,7 +131,7 @@ step-spec =
     enum-known-r
     enum-told
     state-of-requires
-    passed-requires
+    elapsed-requires
     judge-requires
     put-requires
     same-length-2

@@ -15,8 +15,8 @@ returns-3 c =
 
 returns-4 : tie.Need-returns-4
 returns-4 c =
-    let k = c .before .before .before .before .args .kind in
-    simp (c .before .before .if1 .left, ne-eqb k 0x05 (c .before .if2 .left), ne-eqb k 0x21 (c .if3 .left))
+    let n = c .before .before .before .before .args .kind in
+    simp (c .before .before .if1 .left, ne-eqb n 0x05 (c .before .if2 .left), ne-eqb n 0x21 (c .if3 .left))
 
 pub on-other-spec : {M : Type 1} → statement M
 on-other-spec = tie.close (tie.spec returns returns-2 returns-3 returns-4)

@@ -1,7 +1,6 @@
 use borrow.Author.Needs.{needs}
 use borrow.Author.Tests.{eq-eqb, ne-eqb}
 use lib.ListN.{length}
-use mathlib.Core.Path.{sym, _∙_}
 use Rattle.door.specs.State.{isSecret}
 use Rattle.door.proofs.state.is_secret.Statement.{statement}
 use Rattle.door.proofs.state.is_secret.Tie as tie

@@ -9,7 +9,7 @@ use mathlib.Core.Path.{_≡_, sym, ap, _∙_}
 use native.Mathlib.Omega.{arith}
 use Rattle.answer.proofs.Laws.Decided.{decided}
 use Rattle.door.proofs.Laws.State.{by-seconds}
-use Rattle.door.specs.State.{secondsLeft, isState}
+use Rattle.door.specs.State.{shutOut, secondsLeft, isState}
 use Rattle.door.proofs.state.is_state.Statement.{statement}
 use Rattle.door.proofs.state.is_state.Tie as tie
 
@@ -35,14 +35,14 @@ abbrev state : tie.After-seconds-left → List ℕ
 state at = at .before .before .before .before .before .before .before .args .state .now
 
 -- where the seconds left are known
-so-far : (at : tie.After-seconds-left) → isState (state at) ≡ (leb (secondsLeft (state at)) 3600 && (eqb (getD (state at) 1 0) 0 || eqb (secondsLeft (state at)) 0))
+so-far : (at : tie.After-seconds-left) → isState (state at) ≡ (leb (secondsLeft (state at)) shutOut && (eqb (getD (state at) 1 0) 0 || eqb (secondsLeft (state at)) 0))
 so-far at =
     let few = at .before in
     let first = few .before .before in
     by-seconds (state at) (first .before .before .if1 .left) (first .if2 .left) (few .if3 .left)
 
-within : (at : tie.After-seconds-left) → at .seconds-left .result ≤ 3600 → leb (secondsLeft (state at)) 3600 ≡ true
-within at h = le-leb (secondsLeft (state at)) 3600 (omega (arith, at .seconds-left .ensures))
+within : (at : tie.After-seconds-left) → at .seconds-left .result ≤ shutOut → leb (secondsLeft (state at)) shutOut ≡ true
+within at h = le-leb (secondsLeft (state at)) shutOut (omega (arith, at .seconds-left .ensures))
 
 seconds-left-requires : tie.Need-seconds-left-requires
 seconds-left-requires c κs = search needs
@@ -50,8 +50,8 @@ seconds-left-requires c κs = search needs
 returns-4 : tie.Need-returns-4
 returns-4 c =
     let at = c .before in
-    let over : 3600 < secondsLeft (state at) = omega (arith, at .seconds-left .ensures, c .if4 .taken) in
-    sym (so-far at ∙ simp (lt-leb (secondsLeft (state at)) 3600 over))
+    let over : shutOut < secondsLeft (state at) = omega (arith, at .seconds-left .ensures, c .if4 .taken) in
+    sym (so-far at ∙ simp (lt-leb (secondsLeft (state at)) shutOut over))
 
 shared-slice-read-if5 : tie.Need-shared-slice-read-if5
 shared-slice-read-if5 c = search needs
