@@ -136,7 +136,7 @@ enum { DOOR_STATE = 4 };
      seconds of a shut-out;
    - any other message gets 06 where nobody is logged in; else 05 gets 05, a logout gets 05 and logs out, and every other type is
      passed on, 06 too. A count stays through all of them, and through any silence.
-   A refused call changes nothing: the seconds count on from the last accepted one. With the first call any number will do. Whole
+   A refused call changes nothing: the seconds count on from the last accepted one. With a fresh state any number will do. Whole
    seconds drop a fraction at each accepted call: a host that is sent a message every 900 ms would give 0 each time, and a shut-out
    would never end. So keep the fractions of a shut-out and give them once they make a second; but 180 are given only for 180 seconds
    of silence, since they end a session.

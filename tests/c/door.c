@@ -427,7 +427,7 @@ static void transitions(void)
     }
 }
 
-/* Every state there is, with the seconds that matter to it. */
+/* Every state without a count, with the seconds that matter to it. */
 static void every_state(void)
 {
     const struct message *const kinds[] = {&right, &wrong, &logout, &acknowledge, &negative, &command};

@@ -1,4 +1,4 @@
--- Document 02, K6: runs of messages, one after the other at one door, and what is claimed of them.
+-- Document 02, K6: runs of messages, one after the other at one door, and what is claimed of calls and runs.
 use Prim.Native.Nat.{ℕ, _+_, _<_, _≤_}
 use mathlib.Core.Path.{_≡_}
 use mathlib.Core.Bool.{true}
@@ -87,7 +87,7 @@ abbrev pub Stays-shut : Type 0
 Stays-shut = (secret lent : List ℕ) (messages : List Sent) → secondsPassed (run secret lent messages) < secondsLeft lent
     → NoLogin (run secret lent messages)
 
--- and such a run, whatever its messages are, takes just those seconds off: so a shut-out ends
+-- and such a run, whatever its messages are, takes just those seconds off
 abbrev pub Counts-down : Type 0
 Counts-down = (secret lent : List ℕ) (messages : List Sent) → secondsPassed (run secret lent messages) < secondsLeft lent
     → secondsLeft (stateFound lent (run secret lent messages)) + secondsPassed (run secret lent messages) ≡ secondsLeft lent

@@ -1,4 +1,4 @@
--- One message at the door: by its checks, and what is left of a state. Assumes nothing.
+-- One message at the door: by its checks, by the ways to judge it, during a shut-out, what a login shows, and its digits. Assumes nothing.
 use Prim.Native.Nat.{ℕ, _+_, _-_, _<_, _≤_}
 use mathlib.Core.Path.{_≡_, refl, sym, ap, _∙_}
 use mathlib.Core.Bool.{Bool, true, false, cond, not, _&&_}
@@ -152,13 +152,13 @@ module _ (st : State) (shut : 0 < st .left) where
 
 -- ---- what a login shows
 
-pub negative-is-none : NegativeAcknowledge ≡ Acknowledge → ⊥
-negative-is-none e = let z : _≡_ {A = ℕ} 0 1 = cc in omega arith
+pub negative-differs : NegativeAcknowledge ≡ Acknowledge → ⊥
+negative-differs e = let z : _≡_ {A = ℕ} 0 1 = cc in omega arith
 
 -- it is answered 05 only where it is right
 pub right-login : (st : State) (right : Bool) → onLogin right st .reply ≡ Acknowledge → right ≡ true
 right-login st =
-    any-login (λ right j. j .reply ≡ Acknowledge → right ≡ true) st (λ right shut e. absurd (negative-is-none e)) (λ none e. refl) (λ none e. absurd (negative-is-none e))
+    any-login (λ right j. j .reply ≡ Acknowledge → right ≡ true) st (λ right shut e. absurd (negative-differs e)) (λ none e. refl) (λ none e. absurd (negative-differs e))
 
 -- else it is answered, and leaves the state, as a wrong one
 as-wrong : (st : State) (right : Bool) → (onLogin right st .reply ≡ Acknowledge → ⊥) → onLogin right st ≡ onLogin false st
@@ -214,7 +214,6 @@ digits-same s d four also e =
     same-four s d four also (eqb-true _ _ (p .0)) (eqb-true _ _ (q .0)) (eqb-true _ _ (r .0)) (eqb-true _ _ (r .1))
 
 -- the secret's own
-
 pub own-digits : (s : List ℕ) → sameDigits s s ≡ true
 unfolding sameDigits
 own-digits s =

@@ -1,4 +1,4 @@
--- Runs of messages at the door: it keeps its secret, opens to the right login and no other, stays shut as long as it must and no longer, and
+-- Calls and runs of calls at the door: it keeps its secret, accepts the right login and no other, stays shut while seconds are left, and
 -- leaves states that it takes. Assumes nothing.
 use Prim.Native.Nat.{ℕ, zero, suc, _+_, _-_, _<_, _≤_}
 use mathlib.Core.Path.{_≡_, refl, sym, ap, subst, _∙_}
@@ -15,11 +15,10 @@ use Rattle.message.proofs.Laws.Sized.{login-written, login-length}
 use Rattle.door.specs.State.{isSecret, isState, secondsLeft, stateOf, stateBytes}
 use Rattle.door.specs.Door.{loginType, asState, replied, elapsed, sameDigits, judge, step, replyBy, stateAfter}
 use Rattle.door.specs.Runs.{Sent, Call, call, run, Accepts, NoLogin, secondsOf, secondsPassed, stateFound, Keeps-secret, Opens, Only-the-secret, Stays-shut, Counts-down, Leaves-a-state, Login-door}
-use Rattle.door.specs.declared.Reply.the-variants.{Acknowledge, NegativeAcknowledge}
+use Rattle.door.specs.declared.Reply.the-variants.{Acknowledge}
 use Rattle.door.specs.declared.judge.Judged.{Judged}
-use Rattle.door.specs.declared.state.State.{State}
 use Rattle.door.proofs.Laws.State.{left-back, secret-digits, state-ranges, ranges-state}
-use Rattle.door.proofs.Laws.Door.{was-judged, by-message, elapsed-ranges, judged-ranges, negative-is-none, shut-left, shut-reply, right-login, judged-alike, digits-same, own-digits}
+use Rattle.door.proofs.Laws.Door.{was-judged, by-message, elapsed-ranges, judged-ranges, negative-differs, shut-left, shut-reply, right-login, judged-alike, digits-same, own-digits}
 
 -- ---- one call at two secrets
 
@@ -38,26 +37,26 @@ module _ (lent : List ℕ) (m : Sent) where
   unfolding step
   at-secret secret e = ap (λ (t : Bool). seen (refuseIf (not t) 8 (behind (judged secret)))) e
 
-  abbrev Refuses : Call → Type 0
-  Refuses c = Accepts c → ⊥
+  abbrev NoneAccepted : Call → Type 0
+  NoneAccepted c = Accepts c → ⊥
 
-  alike : (first second : List ℕ) → Refuses (seen (behind (judged first))) → Refuses (seen (behind (judged second))) → behind (judged first) ≡ behind (judged second)
+  alike : (first second : List ℕ) → NoneAccepted (seen (behind (judged first))) → NoneAccepted (seen (behind (judged second))) → behind (judged first) ≡ behind (judged second)
   alike first second = by (isState lent) (writeMessage (m .kind) (m .bytes))
     where
       at : Bool → Outcome (List ℕ) → List ℕ → Outcome Judged
       at taken written secret = refuseIf (not taken) 8 (andThen written (λ frame. accepted (judged secret)))
 
-      by : (taken : Bool) (written : Outcome (List ℕ)) → Refuses (seen (at taken written first)) → Refuses (seen (at taken written second)) → at taken written first ≡ at taken written second
+      by : (taken : Bool) (written : Outcome (List ℕ)) → NoneAccepted (seen (at taken written first)) → NoneAccepted (seen (at taken written second)) → at taken written first ≡ at taken written second
       by false written none nor = refl
       by true (refused n) none nor = refl
       by true (accepted s) none nor =
           ap accepted (judged-alike first second (m .kind) (m .bytes) (elapsed (m .seconds) (stateOf lent)) (λ is e. none (is, ap accepted e)) (λ is e. nor (is, ap accepted e)))
 
-  same-call : (first second : List ℕ) → isSecret first ≡ true → isSecret second ≡ true → Refuses (call first lent m) → Refuses (call second lent m) → call first lent m ≡ call second lent m
+  same-call : (first second : List ℕ) → isSecret first ≡ true → isSecret second ≡ true → NoneAccepted (call first lent m) → NoneAccepted (call second lent m) → call first lent m ≡ call second lent m
   same-call first second a b none nor =
       let x = at-secret first a in
       let y = at-secret second b in
-      x ∙ ap seen (alike first second (subst Refuses x none) (subst Refuses y nor)) ∙ sym y
+      x ∙ ap seen (alike first second (subst NoneAccepted x none) (subst NoneAccepted y nor)) ∙ sym y
 
 pub keeps-secret : Keeps-secret
 unfolding run NoLogin
@@ -93,7 +92,6 @@ opens secret lent seconds a b few =
     (ap replyBy e, ap (λ (o : Outcome Judged). stateAfter o lent) e ∙ logged-in)
 
 -- and no other
-
 pub only-the-secret : Only-the-secret
 only-the-secret secret lent m a =
     let o = on-accepted (λ (j : Judged). j .reply) (step secret lent (m .seconds) (m .kind) (m .bytes)) Acknowledge (a .1) in
@@ -128,7 +126,7 @@ module _ (secret lent : List ℕ) (m : Sent) where
           let st = elapsed (m .seconds) (stateOf lent) in
           let some : 0 < st .left = omega arith in
           let left : j .state .left ≡ secondsLeft lent - m .seconds = ap (λ (x : Judged). x .state .left) (sym judged) ∙ shut-left st some secret (m .kind) (m .bytes) in
-          (λ c. negative-is-none (sym (shut-reply st some secret (m .bytes)) ∙ ap (λ (k : ℕ). judge secret k (m .bytes) st .reply) (sym (c .0)) ∙ ap (λ (x : Judged). x .reply) judged ∙ same (c .1)), omega (arith, left-back (j .state), left))
+          (λ c. negative-differs (sym (shut-reply st some secret (m .bytes)) ∙ ap (λ (k : ℕ). judge secret k (m .bytes) st .reply) (sym (c .0)) ∙ ap (λ (x : Judged). x .reply) judged ∙ same (c .1)), omega (arith, left-back (j .state), left))
 
 pub stays-shut : Stays-shut
 unfolding run NoLogin secondsPassed
