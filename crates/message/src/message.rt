@@ -329,9 +329,9 @@ pub fn write(kind: u8, data: &[u8], out: &mut [u8]) -> Written
 pub fn size(kind: u8, data: &[u8]) -> Written
     ensures { λ r. ⌜ writtenOf r ≡ onAccepted length (writeMessage kind (now («data» .entry))) ⌝ }
 {
-    let fault = check::fault(kind, data);
-    if fault != check::NONE {
-        return Written::Refused(check::refusal(fault));
+    let number = check::fault(kind, data);
+    if number != check::NONE {
+        return Written::Refused(check::refusal(number));
     }
     let count = data.len() as u32 + 5;
     Written::Count(count)
