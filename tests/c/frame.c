@@ -1,4 +1,4 @@
-/* Omni-Link frames: each refusal at its edge, the frames that document 000 prints, writing into rooms from 0 up. */
+/* Omni-Link frames: each refusal at its edge, the frames that document 000 prints, the CRC at every length, writing into rooms from 0 up. */
 #include "check.h"
 #include "frame.h"
 #include "gateway.h"
@@ -76,6 +76,35 @@ static void damaged_frames(void)
     }
 }
 
+/* Reads and writes a frame, and reads it with its CRC off by one bit. */
+static void both_ways(uint8_t type, const uint8_t *data, size_t n)
+{
+    uint8_t want[69];
+    size_t size = frame_write(type, data, n, want);
+    uint8_t *out = lend(&output, size);
+    SAME(omnilink_frame_write(type, data, n, out, size), (uint64_t)size << 8);
+    CHECK(memcmp(out, want, size) == 0);
+    SAME(read_lent(want, size), (uint64_t)type << 8 | (uint64_t)n << 16);
+    want[size - 1 - n % 2] ^= (uint8_t)(1 << n % 8);
+    SAME(read_lent(want, size), 5);
+}
+
+/* The CRC at every length: of every type, and with one set bit at each place. */
+static void every_length(void)
+{
+    for (size_t n = 0; n <= 64; n++) {
+        uint8_t data[64] = {0};
+        for (unsigned type = 0; type < 256; type++) {
+            both_ways((uint8_t)type, data, n);
+        }
+        for (size_t bit = 0; bit < n * 8; bit++) {
+            data[bit / 8] = (uint8_t)(1 << bit % 8);
+            both_ways(0, data, n);
+            data[bit / 8] = 0;
+        }
+    }
+}
+
 static void writing(void)
 {
     for (size_t n = 0; n <= 70; n++) {
@@ -109,6 +138,7 @@ int main(void)
     printed_frames();
     refusals_at_their_edges();
     damaged_frames();
+    every_length();
     writing();
     return check_end();
 }

@@ -2,7 +2,10 @@
 pub mod Bits
 pub mod Distance
 pub mod Feed
+pub mod Fold
+pub mod Linear
 pub mod Parity
-pub mod Table
+pub mod Parts
 pub mod Wide
+pub mod Word
 pub mod Xor

@@ -1,5 +1,5 @@
--- Document 01, "Omni-Link frames": the CRC on bits and its table; the places at which bit strings differ.
+-- Document 01, "Omni-Link frames": the CRC on bits; the places at which bit strings differ; what the code's parts promise one another.
 pub mod Bits
 pub mod Crc
-pub mod Table
 pub mod Places
+pub mod Parts

@@ -14,7 +14,7 @@ use Rattle.answer.specs.Bit.{bit}
 use Rattle.crc.specs.Bits.{odd, bitsOf, bitString}
 use Rattle.crc.specs.Crc.{crc, feed}
 use Rattle.crc.specs.Places.{differences, places, first, last, Apart}
-use Rattle.crc.specs.Table.{turns}
+use Rattle.crc.specs.Parts.{turns}
 use Rattle.crc.proofs.Laws.Bits.{spelled, bitString-length, bitString-append}
 use Rattle.crc.proofs.Laws.Feed.{num, turns-xor, turns-zero, feed-turns, feed-append}
 use Rattle.crc.proofs.Laws.Parity.{even-places}

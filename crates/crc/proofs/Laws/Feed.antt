@@ -4,14 +4,15 @@ use mathlib.Core.Path.{_≡_, refl, sym, ap, ap₂, _∙_}
 use mathlib.Core.Bool.{Bool, true, false, xor}
 use mathlib.Core.List.{List, [], _∷_, _++_}
 use Prim.Native.Nat.{ℕ, zero, suc, _+_, _*_, _/_, _%_, _^_, _<_, _≤_}
-use native.Mathlib.Nat.{add-comm, suc-add, zero-add, mul-mod-left, mul-div-cancel, zero-lt-suc, le-refl}
+use native.Mathlib.Nat.{add-comm, suc-add, add-suc, zero-add, mul-assoc, mul-one, pow-suc, mul-mod-left, mul-div-cancel, zero-lt-suc, le-refl}
 use native.Mathlib.Omega.{arith}
 use lib.Bits.{bitXor, xor-comm, xor-zero-r, xor-self, xor-shifted, xor-lt}
 use lib.ListN.{length, length-append}
+use lib.Pow.{pow-mono}
 use Rattle.answer.specs.Bit.{bit}
 use Rattle.crc.specs.Bits.{odd, bitsOf, bitString}
 use Rattle.crc.specs.Crc.{shift, feed}
-use Rattle.crc.specs.Table.{turns}
+use Rattle.crc.specs.Parts.{turns}
 use Rattle.crc.proofs.Laws.Xor.{low-bit, xor-half, xor-odd, xor-assoc, xor-swap, xor-zero}
 
 -- the number that bits spell, the lowest first
@@ -51,6 +52,15 @@ pub shift-double : (n : ℕ) → shift (n * 2) ≡ n
 shift-double n =
     ap₂ (λ (h t : ℕ). bitXor h (t * 0xA001)) (mul-div-cancel n (zero-lt-suc 1)) (mul-mod-left n 2) ∙ xor-zero-r n
 
+-- a number moved up by as many bits as it is turned
+pub turns-shifted : (n q : ℕ) → turns n (q * 2 ^ n) ≡ q
+turns-shifted zero q = mul-one q
+turns-shifted (suc n) q =
+    ap (λ (m : ℕ). turns n (shift (q * m))) (pow-suc 2 n)
+    ∙ ap (λ (m : ℕ). turns n (shift m)) (sym (mul-assoc q (2 ^ n) 2))
+    ∙ ap (turns n) (shift-double (q * 2 ^ n))
+    ∙ turns-shifted n q
+
 -- a bit below a doubled number is xored as it is added
 pub put-bit : (n : ℕ) (b : Bool) → n * 2 + bit b ≡ bitXor (bit b) (n * 2)
 put-bit n true = sym (xor-shifted n 1 1 (le-refl 2)) ∙ xor-comm (n * 2) 1
@@ -70,6 +80,14 @@ pub feed-append : (r : ℕ) (p bs : List Bool) → feed r (p ++ bs) ≡ feed (fe
 unfolding feed
 feed-append r [] bs = refl
 feed-append r (a ∷ p) bs = feed-append (shift (bitXor r (bit a))) p bs
+
+-- each turn takes off a bit, down to 16
+pub turns-below : (k r : ℕ) → r < 2 ^ (16 + k) → turns k r < 2 ^ 16
+turns-below zero r h = h
+turns-below (suc k) r h =
+    let l : r < 2 ^ (16 + k) * 2 = rw (add-suc, pow-suc) at h in
+    let some : 2 ^ 16 ≤ 2 ^ (16 + k) = pow-mono {i = 16} {j = 16 + k} (omega arith) in
+    turns-below k (shift r) (xor-lt (16 + k) (r / 2) (r % 2 * 0xA001) (omega arith) (omega arith))
 
 -- below 2^16 the register stays there, and only 0 turns into 0
 pub shift-lt : (r : ℕ) → r < 2 ^ 16 → shift r < 2 ^ 16

@@ -14,14 +14,9 @@ use Rattle.answer.specs.Bit.{bit}
 use Rattle.crc.specs.Bits.{odd}
 use Rattle.crc.specs.Crc.{shift}
 use Rattle.crc.specs.Places.{places}
-use Rattle.crc.specs.Table.{turns}
+use Rattle.crc.specs.Parts.{turns, parity}
 use Rattle.crc.proofs.Laws.Feed.{num}
 use Rattle.crc.proofs.Laws.Xor.{low-bit, half-digit, odd-digit, xor-half, xor-odd, xor-false, xor-assoc-bits}
-
--- the parity of a number's k lowest bits
-abbrev parity : ℕ → ℕ → Bool
-parity zero n = false
-parity (suc k) n = xor (odd n) (parity k (n / 2))
 
 xor-comm-bits : (a b : Bool) → xor a b ≡ xor b a
 unfolding xor
@@ -36,7 +31,7 @@ xor-swap-bits a b c d =
     ∙ ap (xor a) (sym (xor-assoc-bits b c d) ∙ ap (λ (x : Bool). xor x d) (xor-comm-bits b c) ∙ xor-assoc-bits c b d)
     ∙ sym (xor-assoc-bits a c (xor b d))
 
-parity-xor : (k a b : ℕ) → parity k (bitXor a b) ≡ xor (parity k a) (parity k b)
+pub parity-xor : (k a b : ℕ) → parity k (bitXor a b) ≡ xor (parity k a) (parity k b)
 unfolding xor
 parity-xor zero a b = refl
 parity-xor (suc k) a b =

@@ -16,7 +16,7 @@ use borrow.Author.Tests.{eq-eqb}
 use Rattle.answer.specs.Bit.{bit}
 use Rattle.crc.specs.Crc.{shift}
 use Rattle.crc.specs.Places.{places, first, last}
-use Rattle.crc.specs.Table.{turns}
+use Rattle.crc.specs.Parts.{turns}
 use Rattle.crc.proofs.Laws.Feed.{num, turns-xor, turns-zero, turns-add, turns-nonzero, shift-double, shift-lt, put-bit}
 use Rattle.crc.proofs.Laws.Xor.{xor-zero}
 

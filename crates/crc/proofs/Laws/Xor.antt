@@ -78,6 +78,9 @@ xor-assoc =
     ∙ ap₂ (λ (h : ℕ) (t : Bool). bitXor (a / 2) h * 2 + bit (xor (odd a) t)) (sym (xor-half b c)) (sym (xor-odd b c))
     ∙ sym (xor-digits a (bitXor b c)))
 
+pub xor-past : (a b c : ℕ) → bitXor (bitXor a b) c ≡ bitXor (bitXor a c) b
+xor-past a b c = xor-assoc a b c ∙ ap (bitXor a) (xor-comm b c) ∙ sym (xor-assoc a c b)
+
 -- two xors of pairs, regrouped
 pub xor-swap : (a b c d : ℕ) → bitXor (bitXor a b) (bitXor c d) ≡ bitXor (bitXor a c) (bitXor b d)
 xor-swap a b c d =

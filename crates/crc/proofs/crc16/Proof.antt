@@ -1,29 +1,50 @@
-use Prim.Native.Nat.{ℕ, _-_, _≤_, zero-le}
-use lib.ListN.{length, getD, take}
+use Prim.Native.Nat.{ℕ, _-_, _%_, _≤_}
+use borrow.Author.Needs.{needs}
+use lib.Bits.{bitXor}
+use lib.ListN.{length, take}
 use lib.Seq.{take-all}
-use mathlib.Core.Path.{_≡_, refl, ap, _∙_}
+use mathlib.Core.Path.{_≡_, sym, ap, _∙_}
 use native.Mathlib.Omega.{arith}
-use Rattle.crc.proofs.Laws.Table.{crc-next}
+use Rattle.crc.proofs.Laws.Parts.{whole}
+use Rattle.crc.proofs.Laws.Word.{crc-word}
 use Rattle.crc.proofs.crc16.Statement.{statement}
 use Rattle.crc.proofs.crc16.Tie as tie
-use Rattle.crc.specs.Bits.{bitsOf}
-use Rattle.crc.specs.Crc.{crc, feed}
+use Rattle.crc.specs.Crc.{crc}
+use Rattle.crc.specs.Parts.{evenPart, oddPart}
 
 abbrev Inv-loop : tie.InvT-loop
-Inv-loop bytes r₀ i₀ r i = (i ≤ length bytes) × (r ≡ crc (take i bytes))
+Inv-loop bytes b len i₀ s₀ x₀ i s x =
+    (i ≤ len) × ((len - i) % 8 ≡ 0) × (crc (take i bytes) ≡ bitXor (evenPart 64 s) (oddPart x))
 
 abbrev μ-loop : tie.MeasureT-loop
-μ-loop bytes r₀ i₀ r i = length bytes - i
+μ-loop bytes b len i₀ s₀ x₀ i s x = len - i
+
+is-without-data-requires : tie.Need-is-without-data-requires Inv-loop μ-loop
+is-without-data-requires c κs = search needs
+
+shared-slice-read-without-data : tie.Need-shared-slice-read-without-data Inv-loop μ-loop
+shared-slice-read-without-data c =
+    omega (arith, ap length (c .before .before .is-without-data .ensures (c .before .if1 .taken)))
+
+without-data-requires : tie.Need-without-data-requires Inv-loop μ-loop
+without-data-requires c κs = search needs
+
+returns : tie.Need-returns Inv-loop μ-loop
+returns c =
+    let at = c .before .before in
+    c .without-data .ensures ∙ ap crc (sym (at .before .is-without-data .ensures (at .if1 .taken)))
+
+head-requires : tie.Need-head-requires Inv-loop μ-loop
+head-requires c κs = (omega arith, omega arith)
 
 loop-holds : tie.Need-loop-holds Inv-loop μ-loop
-unfolding crc feed
-loop-holds c = (zero-le, refl)
+loop-holds c = (omega arith, omega arith, sym (c .head .ensures) ∙ sym (whole 64 (c .head .result)))
 
-shared-slice-read-step : tie.Need-shared-slice-read-step Inv-loop μ-loop
-shared-slice-read-step c = omega arith
+eight-requires : tie.Need-eight-requires Inv-loop μ-loop
+eight-requires c κs = omega arith
 
-step-requires : tie.Need-step-requires Inv-loop μ-loop
-step-requires c κs = tt
+carry-requires : tie.Need-carry-requires Inv-loop μ-loop
+carry-requires c κs = search needs
 
 add-i : tie.Need-add-i Inv-loop μ-loop
 add-i c = omega arith
@@ -34,17 +55,24 @@ loop-less c = omega arith
 loop-again : tie.Need-loop-again Inv-loop μ-loop
 loop-again c =
     let at = c .before .before .before in
-    let s = at .before .before .args .bytes .now in (
+    let start = at .before .before .before .before in
+    let s = start .before .args .bytes .now in
+    let x = at .loop .x in (
       omega arith,
-      c .step .ensures
-          ∙ ap (λ (r : ℕ). feed r (bitsOf 8 (getD s (at .loop .i) 0))) (at .loop .inv .1)
-          ∙ crc-next s (at .loop .i) (omega arith),
+      omega arith,
+      crc-word s (λ j. start .shared-slice-known .given j .fits) (at .loop .i) (at .loop .s) x (c .carry .result) (omega arith)
+          (at .loop .inv .2) (c .carry .ensures)
+          ∙ ap (λ (w : ℕ). bitXor (evenPart 64 (bitXor (c .carry .result) w)) (oddPart (bitXor x w))) (sym (c .before .eight .ensures)),
     )
 
-returns : tie.Need-returns Inv-loop μ-loop
-returns c =
-    let s = c .before .before .before .args .bytes .now in
-    c .before .loop .inv .1 ∙ ap crc (take-all (c .before .loop .i) s (omega arith))
+finish-requires : tie.Need-finish-requires Inv-loop μ-loop
+finish-requires c κs = search needs
+
+returns-2 : tie.Need-returns-2 Inv-loop μ-loop
+returns-2 c =
+    let at = c .before .before in
+    let s = at .before .before .before .before .before .args .bytes .now in
+    c .finish .ensures ∙ sym (at .loop .inv .2) ∙ ap crc (take-all (at .loop .i) s (omega arith))
 
 pub crc16-spec : {M : Type 1} → statement M
 crc16-spec =
@@ -52,10 +80,16 @@ crc16-spec =
     (tie.spec
     Inv-loop
     μ-loop
+    is-without-data-requires
+    shared-slice-read-without-data
+    without-data-requires
+    returns
+    head-requires
     loop-holds
-    shared-slice-read-step
-    step-requires
+    eight-requires
+    carry-requires
     add-i
     loop-less
     loop-again
-    returns)
+    finish-requires
+    returns-2)
