@@ -22,12 +22,12 @@ abbrev pub parity : ℕ → ℕ → Bool
 parity zero n = false
 parity (suc k) n = xor (odd n) (parity k (n / 2))
 
--- The polynomial is (x+1)(x^15+x+1). After some turns a number is the xor of two parts.
+-- The polynomial is (x+1)(x^15+x+1). A number of 64 bits, turned 64 times, is the xor of two parts.
 
 -- the part that goes by the number's parity alone: x^15+x+1, the lowest power in the highest bit, where it is odd
 unfoldable pub oddPart : ℕ → ℕ
 oddPart n = cond (parity 64 n) 0xC001 0
 
--- the other part, after k turns: it has an even number of ones, and goes by the number modulo x^15+x+1 alone
-unfoldable pub evenPart : ℕ → ℕ → ℕ
-evenPart k n = bitXor (turns k n) (oddPart n)
+-- the other part: it has an even number of ones, and goes by the number modulo x^15+x+1 alone
+unfoldable pub evenPart : ℕ → ℕ
+evenPart n = bitXor (turns 64 n) (oddPart n)

@@ -4,9 +4,9 @@
 mod fold;
 mod word;
 
-use fold::carry;
+use fold::advance;
 use fold::finish;
-use fold::without_data;
+use fold::of_01_and;
 use word::eight;
 use word::head;
 ghost use mathlib.Core.Bool.{true};
@@ -15,9 +15,9 @@ ghost use mathlib.Core.Path.{_≡_};
 ghost use lib.ListN.{getD};
 ghost use Rattle.crc.specs.Crc.{crc};
 
-// Whether a string is what the CRC covers in a frame without data: the length byte 01 and a type byte. The length is asked last, since
-// the compiler would else set up the loops of crc16 for two bytes before it looks at the first.
-fn is_without_data(b: &[u8]) -> bool
+// True only of 01 and a byte: what the CRC covers in a frame without data. In this order of questions longer strings take two
+// instructions less.
+fn is_01_and_byte(b: &[u8]) -> bool
     ensures { λ r. ⌜ (r ≡ true → now (b .entry) ≡ 1 ∷ getD (now (b .entry)) 1 0 ∷ []) ⌝ }
 {
     if b.len() == 0 {
@@ -36,17 +36,17 @@ pub fn crc16(bytes: &[u8]) -> u16
     // Lent again here, so that its start and length are passed in registers.
     let b = &bytes[..];
     let len = b.len();
-    if is_without_data(b) {
-        return without_data(b[1]);
+    if is_01_and_byte(b) {
+        return of_01_and(b[1]);
     }
     let mut i = len % 8;
     let mut s = head(b, i);
-    let mut x = s;
+    let mut all = s;
     while i < len {
         let w = eight(b, i);
-        s = carry(s) ^ w;
-        x = x ^ w;
+        s = advance(s) ^ w;
+        all = all ^ w;
         i += 8;
     }
-    finish(s, x)
+    finish(s, all)
 }

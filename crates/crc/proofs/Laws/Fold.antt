@@ -8,13 +8,9 @@ use lib.Bits.{bitXor, xor-lt, xor-shifted}
 use lib.Dec.{T, lit<}
 use Rattle.crc.specs.Parts.{turns, parity, oddPart, evenPart}
 use Rattle.crc.proofs.Laws.Feed.{turns-xor, turns-shifted}
-use Rattle.crc.proofs.Laws.Linear.{Linear, agree, same-below, linear-xor, linear-after, linear-none, linear-right, linear-low, linear-up, linear-left}
+use Rattle.crc.proofs.Laws.Linear.{Linear, agree, same-below, linear-xor, linear-after, linear-none, linear-right, linear-low, linear-up, left, linear-left}
 use Rattle.crc.proofs.Laws.Parts.{linear-turns, linear-odd, linear-even}
 use Rattle.crc.proofs.Laws.Xor.{xor-past}
-
--- a u64 shifted left
-abbrev left : ℕ → ℕ → ℕ
-left k n = n * 2 ^ k % 2 ^ 64
 
 -- ---- `fold`: the same modulo x^15+x+1, its 28 lowest bits clear
 
@@ -26,12 +22,12 @@ unfolding folded
 linear-folded =
     linear-xor (linear-xor (linear-after (linear-left 34) (linear-right 34)) (linear-left 30)) (linear-after (linear-right 2) (linear-left 30))
 
-fold-agrees : T (agree (λ s. evenPart 64 (folded s)) (evenPart 64) 64)
+fold-agrees : T (agree (λ s. evenPart (folded s)) evenPart 64)
 unfolding folded evenPart oddPart xor
 fold-agrees = tt
 
-pub even-folded : (s : ℕ) → s < 2 ^ 64 → evenPart 64 (folded s) ≡ evenPart 64 s
-even-folded = same-below (linear-after (linear-even 64) linear-folded) (linear-even 64) 64 fold-agrees
+pub even-folded : (s : ℕ) → s < 2 ^ 64 → evenPart (folded s) ≡ evenPart s
+even-folded = same-below (linear-after linear-even linear-folded) linear-even 64 fold-agrees
 
 fold-clears : T (agree (λ s. folded s % 2 ^ 28) (λ s. 0) 64)
 unfolding folded
@@ -40,25 +36,25 @@ fold-clears = tt
 pub low-folded : (s : ℕ) → s < 2 ^ 64 → folded s % 2 ^ 28 ≡ 0
 low-folded = same-below (linear-after (linear-low 28) linear-folded) linear-none 64 fold-clears
 
--- ---- `carry`: such a word, turned 64 times more
+-- ---- `advance`: such a word, turned 64 times more
 
-unfoldable pub carried : ℕ → ℕ
-carried g = bitXor (g / 2 ^ 8) (g / 2 ^ 4)
+unfoldable pub advanced : ℕ → ℕ
+advanced g = bitXor (g / 2 ^ 8) (g / 2 ^ 4)
 
-linear-carried : Linear carried
-unfolding carried
-linear-carried = linear-xor (linear-right 8) (linear-right 4)
+linear-advanced : Linear advanced
+unfolding advanced
+linear-advanced = linear-xor (linear-right 8) (linear-right 4)
 
-carry-agrees : T (agree (λ q. evenPart 64 (carried (q * 2 ^ 28))) (λ q. turns 64 (evenPart 64 (q * 2 ^ 28))) 36)
-unfolding carried evenPart oddPart xor
-carry-agrees = tt
+advance-agrees : T (agree (λ q. evenPart (advanced (q * 2 ^ 28))) (λ q. turns 64 (evenPart (q * 2 ^ 28))) 36)
+unfolding advanced evenPart oddPart xor
+advance-agrees = tt
 
-pub even-carried : (q : ℕ) → q < 2 ^ 36 → evenPart 64 (carried (q * 2 ^ 28)) ≡ turns 64 (evenPart 64 (q * 2 ^ 28))
-even-carried =
-    same-below (linear-after (linear-even 64) (linear-after linear-carried (linear-up 28)))
-    (linear-after (linear-turns 64) (linear-after (linear-even 64) (linear-up 28))) 36 carry-agrees
+pub even-advanced : (q : ℕ) → q < 2 ^ 36 → evenPart (advanced (q * 2 ^ 28)) ≡ turns 64 (evenPart (q * 2 ^ 28))
+even-advanced =
+    same-below (linear-after linear-even (linear-after linear-advanced (linear-up 28)))
+    (linear-after (linear-turns 64) (linear-after linear-even (linear-up 28))) 36 advance-agrees
 
--- ---- `finish`: the 36 bits of such a word to 28, and 28 to 16
+-- ---- `finish` and `reduce`: the 36 bits of such a word to 28, and 28 to 16
 
 unfoldable pub narrowed : ℕ → ℕ
 narrowed q = bitXor (bitXor (q / 2 ^ 8) (left 6 (q % 2 ^ 8))) (left 7 (q % 2 ^ 8))
@@ -68,12 +64,13 @@ unfolding narrowed
 linear-narrowed =
     linear-xor (linear-xor (linear-right 8) (linear-after (linear-left 6) (linear-low 8))) (linear-after (linear-left 7) (linear-low 8))
 
-narrow-agrees : T (agree (λ q. evenPart 28 (narrowed q)) (λ q. evenPart 64 (q * 2 ^ 28)) 36)
+narrow-agrees : T (agree (λ q. evenPart (narrowed q * 2 ^ 36)) (λ q. evenPart (q * 2 ^ 28)) 36)
 unfolding narrowed evenPart oddPart xor
 narrow-agrees = tt
 
-pub even-narrowed : (q : ℕ) → q < 2 ^ 36 → evenPart 28 (narrowed q) ≡ evenPart 64 (q * 2 ^ 28)
-even-narrowed = same-below (linear-after (linear-even 28) linear-narrowed) (linear-after (linear-even 64) (linear-up 28)) 36 narrow-agrees
+pub even-narrowed : (q : ℕ) → q < 2 ^ 36 → evenPart (narrowed q * 2 ^ 36) ≡ evenPart (q * 2 ^ 28)
+even-narrowed =
+    same-below (linear-after linear-even (linear-after (linear-up 36) linear-narrowed)) (linear-after linear-even (linear-up 28)) 36 narrow-agrees
 
 pub narrowed-lt : (q : ℕ) → q < 2 ^ 36 → narrowed q < 2 ^ 28
 unfolding narrowed
@@ -91,14 +88,14 @@ linear-reduced =
     (linear-xor (linear-xor (linear-right 14) (linear-after (linear-left 1) (linear-right 14))) (linear-low 14))
     (linear-after (linear-left 2) (linear-low 14))
 
-reduce-agrees : T (agree reduced (evenPart 28) 28)
+reduce-agrees : T (agree reduced (λ n. evenPart (n * 2 ^ 36)) 28)
 unfolding reduced evenPart oddPart xor
 reduce-agrees = tt
 
-pub even-reduced : (n : ℕ) → n < 2 ^ 28 → reduced n ≡ evenPart 28 n
-even-reduced = same-below linear-reduced (linear-even 28) 28 reduce-agrees
+pub even-reduced : (n : ℕ) → n < 2 ^ 28 → reduced n ≡ evenPart (n * 2 ^ 36)
+even-reduced = same-below linear-reduced (linear-after linear-even (linear-up 36)) 28 reduce-agrees
 
--- ---- `without_data`: a byte, and 01 before it
+-- ---- `of_01_and`: a byte, and 01 before it
 
 unfoldable byte : ℕ → ℕ
 byte n = bitXor (bitXor (oddPart n) (left 6 n)) (left 7 n)

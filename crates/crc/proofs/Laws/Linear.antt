@@ -24,7 +24,7 @@ linear-after {f} {g} p q = record { keeps = λ a b. ap f (q .keeps a b) ∙ p .k
 pub linear-none : Linear (λ n. 0)
 linear-none = record { keeps = λ a b. refl }
 
--- shifts right, remainders, and shifts left of any number and of a u64
+-- shifts to the right, remainders, and shifts to the left
 pub linear-right : (k : ℕ) → Linear (λ n. n / 2 ^ k)
 linear-right k = record { keeps = λ a b. xor-shr a b k }
 
@@ -40,7 +40,11 @@ linear-up k =
           ∙ ap₂ bitXor (add-zero (a * 2 ^ k)) (add-zero (b * 2 ^ k));
     }
 
-pub linear-left : (k : ℕ) → Linear (λ n. n * 2 ^ k % 2 ^ 64)
+-- a u64 shifted left
+abbrev pub left : ℕ → ℕ → ℕ
+left k n = n * 2 ^ k % 2 ^ 64
+
+pub linear-left : (k : ℕ) → Linear (left k)
 linear-left k = linear-after (linear-low 64) (linear-up k)
 
 -- whether two maps agree on the first k powers of two
@@ -48,9 +52,9 @@ abbrev pub agree : (ℕ → ℕ) → (ℕ → ℕ) → ℕ → Bool
 agree f g zero = true
 agree f g (suc k) = eqb (f (2 ^ k)) (g (2 ^ k)) && agree f g k
 
--- a number is its highest digit xor the rest
-apart : (n k : ℕ) → n ≡ bitXor (n / 2 ^ k * 2 ^ k) (n % 2 ^ k)
-apart n k = sym (split n k) ∙ sym (xor-shifted (n / 2 ^ k) k (n % 2 ^ k) (mod-lt n (pow-pos k)))
+-- a number is its digits from k up xor those below
+halves : (n k : ℕ) → n ≡ bitXor (n / 2 ^ k * 2 ^ k) (n % 2 ^ k)
+halves n k = sym (split n k) ∙ sym (xor-shifted (n / 2 ^ k) k (n % 2 ^ k) (mod-lt n (pow-pos k)))
 
 true-of : (b : Bool) → T b → b ≡ true
 true-of true t = refl
@@ -73,11 +77,11 @@ module _ {f g : ℕ → ℕ} (p : Linear f) (q : Linear g) where
       let l : n < 2 ^ k * 2 = rw pow-suc at h in
       let l2 : n < 2 * 2 ^ k = rw mul-comm at l in
       let here : T (eqb (f (2 ^ k)) (g (2 ^ k))) = and-l (eqb (f (2 ^ k)) (g (2 ^ k))) (agree f g k) t in
-      ap f (apart n k)
+      ap f (halves n k)
       ∙ p .keeps (n / 2 ^ k * 2 ^ k) (n % 2 ^ k)
       ∙ ap₂ bitXor
       (digit k (n / 2 ^ k) (div-lt-iff-lt-mul (pow-pos k) .1 l2)
       (eqb-true (f (2 ^ k)) (g (2 ^ k)) (true-of (eqb (f (2 ^ k)) (g (2 ^ k))) here)))
       (same-below k (and-r (eqb (f (2 ^ k)) (g (2 ^ k))) (agree f g k) t) (n % 2 ^ k) (mod-lt n (pow-pos k)))
       ∙ sym (q .keeps (n / 2 ^ k * 2 ^ k) (n % 2 ^ k))
-      ∙ ap g (sym (apart n k))
+      ∙ ap g (sym (halves n k))

@@ -1,4 +1,5 @@
--- The two parts of a number turned: each keeps xor, together they are the whole, and a word behind a string moves each. Assumes nothing.
+-- The two parts of a number turned: each keeps xor, together they are the whole, and a word behind a string moves each; and the parity by a
+-- count of ones. Assumes nothing.
 use mathlib.Core.Path.{_≡_, refl, sym, ap, ap₂, _∙_}
 use mathlib.Core.Bool.{Bool, true, false, xor, cond}
 use Prim.Native.Nat.{ℕ, zero, suc, _+_, _*_, _/_, _%_, _^_, _<_}
@@ -30,15 +31,15 @@ unfolding oddPart
 linear-odd =
     record { keeps = λ a b. ap (λ (t : Bool). cond t 0xC001 0) (parity-xor 64 a b) ∙ odd-bits (parity 64 a) (parity 64 b) }
 
-pub linear-even : (k : ℕ) → Linear (evenPart k)
+pub linear-even : Linear evenPart
 unfolding evenPart
-linear-even k = linear-xor (linear-turns k) linear-odd
+linear-even = linear-xor (linear-turns 64) linear-odd
 
 -- the two parts make the whole
-pub whole : (k n : ℕ) → bitXor (evenPart k n) (oddPart n) ≡ turns k n
+pub whole : (n : ℕ) → bitXor (evenPart n) (oddPart n) ≡ turns 64 n
 unfolding evenPart
-whole k n =
-    xor-assoc (turns k n) (oddPart n) (oddPart n) ∙ ap (bitXor (turns k n)) (xor-self (oddPart n)) ∙ xor-zero-r (turns k n)
+whole n =
+    xor-assoc (turns 64 n) (oddPart n) (oddPart n) ∙ ap (bitXor (turns 64 n)) (xor-self (oddPart n)) ∙ xor-zero-r (turns 64 n)
 
 odd-lt : (n : ℕ) → oddPart n < 2 ^ 16
 unfolding oddPart
@@ -48,10 +49,10 @@ odd-lt n = by (parity 64 n)
     by true = omega arith
     by false = omega arith
 
-pub parts-lt : (k n x : ℕ) → n < 2 ^ (16 + k) → bitXor (evenPart k n) (oddPart x) < 2 ^ 16
+pub parts-lt : (n x : ℕ) → n < 2 ^ 64 → bitXor (evenPart n) (oddPart x) < 2 ^ 16
 unfolding evenPart
-parts-lt k n x h =
-    xor-lt 16 (bitXor (turns k n) (oddPart n)) (oddPart x) (xor-lt 16 (turns k n) (oddPart n) (turns-below k n h) (odd-lt n)) (odd-lt x)
+parts-lt n x h =
+    xor-lt 16 (bitXor (turns 64 n) (oddPart n)) (oddPart x) (xor-lt 16 (turns 64 n) (oddPart n) (turns-below 64 n (omega arith)) (odd-lt n)) (odd-lt x)
 
 odd-turned : (n : ℕ) → turns 64 (oddPart n) ≡ oddPart n
 unfolding oddPart
@@ -62,13 +63,13 @@ odd-turned n = by (parity 64 n)
     by false = refl
 
 -- a word behind a string whose parts are those of s and x
-pub next-word : (s x w t : ℕ) → evenPart 64 t ≡ turns 64 (evenPart 64 s)
-    → turns 64 (bitXor (bitXor (evenPart 64 s) (oddPart x)) w) ≡ bitXor (evenPart 64 (bitXor t w)) (oddPart (bitXor x w))
+pub next-word : (s x w t : ℕ) → evenPart t ≡ turns 64 (evenPart s)
+    → turns 64 (bitXor (bitXor (evenPart s) (oddPart x)) w) ≡ bitXor (evenPart (bitXor t w)) (oddPart (bitXor x w))
 next-word s x w t e =
-    turns-xor 64 (bitXor (evenPart 64 s) (oddPart x)) w
-    ∙ ap₂ bitXor (turns-xor 64 (evenPart 64 s) (oddPart x) ∙ ap₂ bitXor (sym e) (odd-turned x)) (sym (whole 64 w))
-    ∙ xor-swap (evenPart 64 t) (oddPart x) (evenPart 64 w) (oddPart w)
-    ∙ ap₂ bitXor (sym (linear-even 64 .keeps t w)) (sym (linear-odd .keeps x w))
+    turns-xor 64 (bitXor (evenPart s) (oddPart x)) w
+    ∙ ap₂ bitXor (turns-xor 64 (evenPart s) (oddPart x) ∙ ap₂ bitXor (sym e) (odd-turned x)) (sym (whole w))
+    ∙ xor-swap (evenPart t) (oddPart x) (evenPart w) (oddPart w)
+    ∙ ap₂ bitXor (sym (linear-even .keeps t w)) (sym (linear-odd .keeps x w))
 
 -- the count of ones is odd where the parity is
 count-bits : (p t : Bool) (n : ℕ) → n % 2 ≡ bit t → (bit p + n) % 2 ≡ bit (xor p t)

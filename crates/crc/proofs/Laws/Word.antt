@@ -27,7 +27,7 @@ crc-next s i h =
 
 module _ (s : List ℕ) (bytes : (j : ℕ) → getD s j 0 < 256) where
   -- the CRC of k bytes more
-  pub crc-more : (k i : ℕ) → i + k ≤ length s → crc (take (i + k) s) ≡ turns (8 * k) (bitXor (crc (take i s)) (word k s i))
+  crc-more : (k i : ℕ) → i + k ≤ length s → crc (take (i + k) s) ≡ turns (8 * k) (bitXor (crc (take i s)) (word k s i))
   unfolding word
   crc-more zero i h = ap (λ (n : ℕ). crc (take n s)) (add-zero i) ∙ sym (xor-zero-r (crc (take i s)))
   crc-more (suc k) i h =
@@ -50,8 +50,8 @@ module _ (s : List ℕ) (bytes : (j : ℕ) → getD s j 0 < 256) where
       ∙ sym (turns-add 8 (8 * k) (bitXor r (b + 256 * w)))
       ∙ ap (λ (n : ℕ). turns n (bitXor r (b + 256 * w))) e
 
-  -- the CRC of the first k bytes, and of those with m zero bits in front
-  pub crc-first : (k : ℕ) → k ≤ length s → crc (take k s) ≡ turns (8 * k) (word k s 0)
+  -- the CRC of the first k bytes, and of those as the highest of a word
+  crc-first : (k : ℕ) → k ≤ length s → crc (take k s) ≡ turns (8 * k) (word k s 0)
   unfolding crc feed
   crc-first k h = ap (λ (n : ℕ). crc (take n s)) (sym (zero-add k)) ∙ crc-more k 0 (omega arith)
 
@@ -64,9 +64,9 @@ module _ (s : List ℕ) (bytes : (j : ℕ) → getD s j 0 < 256) where
       ∙ sym (crc-first k l)
 
   -- the CRC of a word more, by the two parts
-  pub crc-word : (i p x t : ℕ) → i + 8 ≤ length s → crc (take i s) ≡ bitXor (evenPart 64 p) (oddPart x)
-      → evenPart 64 t ≡ turns 64 (evenPart 64 p)
-      → crc (take (i + 8) s) ≡ bitXor (evenPart 64 (bitXor t (word 8 s i))) (oddPart (bitXor x (word 8 s i)))
+  pub crc-word : (i p x t : ℕ) → i + 8 ≤ length s → crc (take i s) ≡ bitXor (evenPart p) (oddPart x)
+      → evenPart t ≡ turns 64 (evenPart p)
+      → crc (take (i + 8) s) ≡ bitXor (evenPart (bitXor t (word 8 s i))) (oddPart (bitXor x (word 8 s i)))
   crc-word i p x t h e f =
       crc-more 8 i h
       ∙ ap (λ (r : ℕ). turns 64 (bitXor r (word 8 s i))) e

@@ -13,38 +13,38 @@ use Rattle.crc.specs.Crc.{crc}
 use Rattle.crc.specs.Parts.{evenPart, oddPart}
 
 abbrev Inv-loop : tie.InvT-loop
-Inv-loop bytes b len i₀ s₀ x₀ i s x =
-    (i ≤ len) × ((len - i) % 8 ≡ 0) × (crc (take i bytes) ≡ bitXor (evenPart 64 s) (oddPart x))
+Inv-loop bytes b len i₀ s₀ all₀ i s all =
+    (i ≤ len) × ((len - i) % 8 ≡ 0) × (crc (take i bytes) ≡ bitXor (evenPart s) (oddPart all))
 
 abbrev μ-loop : tie.MeasureT-loop
-μ-loop bytes b len i₀ s₀ x₀ i s x = len - i
+μ-loop bytes b len i₀ s₀ all₀ i s all = len - i
 
-is-without-data-requires : tie.Need-is-without-data-requires Inv-loop μ-loop
-is-without-data-requires c κs = search needs
+is-01-and-byte-requires : tie.Need-is-01-and-byte-requires Inv-loop μ-loop
+is-01-and-byte-requires c κs = search needs
 
-shared-slice-read-without-data : tie.Need-shared-slice-read-without-data Inv-loop μ-loop
-shared-slice-read-without-data c =
-    omega (arith, ap length (c .before .before .is-without-data .ensures (c .before .if1 .taken)))
+shared-slice-read-of-01-and : tie.Need-shared-slice-read-of-01-and Inv-loop μ-loop
+shared-slice-read-of-01-and c =
+    omega (arith, ap length (c .before .before .is-01-and-byte .ensures (c .before .if1 .taken)))
 
-without-data-requires : tie.Need-without-data-requires Inv-loop μ-loop
-without-data-requires c κs = search needs
+of-01-and-requires : tie.Need-of-01-and-requires Inv-loop μ-loop
+of-01-and-requires c κs = search needs
 
 returns : tie.Need-returns Inv-loop μ-loop
 returns c =
     let at = c .before .before in
-    c .without-data .ensures ∙ ap crc (sym (at .before .is-without-data .ensures (at .if1 .taken)))
+    c .of-01-and .ensures ∙ ap crc (sym (at .before .is-01-and-byte .ensures (at .if1 .taken)))
 
 head-requires : tie.Need-head-requires Inv-loop μ-loop
 head-requires c κs = (omega arith, omega arith)
 
 loop-holds : tie.Need-loop-holds Inv-loop μ-loop
-loop-holds c = (omega arith, omega arith, sym (c .head .ensures) ∙ sym (whole 64 (c .head .result)))
+loop-holds c = (omega arith, omega arith, sym (c .head .ensures) ∙ sym (whole (c .head .result)))
 
 eight-requires : tie.Need-eight-requires Inv-loop μ-loop
 eight-requires c κs = omega arith
 
-carry-requires : tie.Need-carry-requires Inv-loop μ-loop
-carry-requires c κs = search needs
+advance-requires : tie.Need-advance-requires Inv-loop μ-loop
+advance-requires c κs = search needs
 
 add-i : tie.Need-add-i Inv-loop μ-loop
 add-i c = omega arith
@@ -57,12 +57,12 @@ loop-again c =
     let at = c .before .before .before in
     let start = at .before .before .before .before in
     let s = start .before .args .bytes .now in
-    let x = at .loop .x in (
+    let all = at .loop .all in (
       omega arith,
       omega arith,
-      crc-word s (λ j. start .shared-slice-known .given j .fits) (at .loop .i) (at .loop .s) x (c .carry .result) (omega arith)
-          (at .loop .inv .2) (c .carry .ensures)
-          ∙ ap (λ (w : ℕ). bitXor (evenPart 64 (bitXor (c .carry .result) w)) (oddPart (bitXor x w))) (sym (c .before .eight .ensures)),
+      crc-word s (λ j. start .shared-slice-known .given j .fits) (at .loop .i) (at .loop .s) all (c .advance .result) (omega arith)
+          (at .loop .inv .2) (c .advance .ensures)
+          ∙ ap (λ (w : ℕ). bitXor (evenPart (bitXor (c .advance .result) w)) (oddPart (bitXor all w))) (sym (c .before .eight .ensures)),
     )
 
 finish-requires : tie.Need-finish-requires Inv-loop μ-loop
@@ -80,14 +80,14 @@ crc16-spec =
     (tie.spec
     Inv-loop
     μ-loop
-    is-without-data-requires
-    shared-slice-read-without-data
-    without-data-requires
+    is-01-and-byte-requires
+    shared-slice-read-of-01-and
+    of-01-and-requires
     returns
     head-requires
     loop-holds
     eight-requires
-    carry-requires
+    advance-requires
     add-i
     loop-less
     loop-again

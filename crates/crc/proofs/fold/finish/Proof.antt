@@ -22,19 +22,19 @@ by-parity-requires c κs = search needs
 returns : tie.Need-returns
 unfolding narrowed oddPart
 returns c =
-    let folded = c .before .before .fold .result in
-    let e : folded / 2 ^ 28 * 2 ^ 28 ≡ folded = omega arith in
+    let word = c .before .before .fold .result in
+    let e : word / 2 ^ 28 * 2 ^ 28 ≡ word = omega arith in
     ap₂ bitXor
     (c .before .reduce .ensures
-    ∙ even-narrowed (folded / 2 ^ 28) (omega arith)
-    ∙ ap (evenPart 64) e
+    ∙ even-narrowed (word / 2 ^ 28) (omega arith)
+    ∙ ap (evenPart) e
     ∙ c .before .before .fold .ensures .0)
     (c .by-parity .ensures)
 
 cast-result : tie.Need-cast-result
 cast-result c =
     let a = c .before .before .before .args in
-    record { fits = subst (λ (r : ℕ). r < 2 ^ 16) (sym (returns c)) (parts-lt 64 (a .s) (a .x) (omega arith)) }
+    record { fits = subst (λ (r : ℕ). r < 2 ^ 16) (sym (returns c)) (parts-lt (a .s) (a .all) (omega arith)) }
 
 pub finish-spec : {M : Type 1} → statement M
 finish-spec =

@@ -8,8 +8,8 @@ use mathlib.Core.Path.{_≡_, ap, _∙_}
 use native.Mathlib.Omega.{arith}
 use Rattle.answer.specs.Bit.{bit}
 use Rattle.crc.proofs.Laws.Word.{two-bytes}
-use Rattle.crc.proofs.is_without_data.Statement.{statement}
-use Rattle.crc.proofs.is_without_data.Tie as tie
+use Rattle.crc.proofs.is_01_and_byte.Statement.{statement}
+use Rattle.crc.proofs.is_01_and_byte.Tie as tie
 
 no : false ≡ true → ⊥
 no e = let z : _≡_ {A = ℕ} 0 1 = ap bit e in omega arith
@@ -28,5 +28,5 @@ returns-3 c e =
     let s = c .before .before .before .args .b .now in
     two-bytes s (eqb-true (length s) 2 e) ∙ ap (λ (a : ℕ). a ∷ getD s 1 0 ∷ []) (omega arith)
 
-pub is-without-data-spec : {M : Type 1} → statement M
-is-without-data-spec = tie.close (tie.spec returns shared-slice-read-if2 returns-2 returns-3)
+pub is-01-and-byte-spec : {M : Type 1} → statement M
+is-01-and-byte-spec = tie.close (tie.spec returns shared-slice-read-if2 returns-2 returns-3)
