@@ -25,7 +25,7 @@ pub(crate) fn advance(s: u64) -> u64
     folded >> 8 ^ folded >> 4
 }
 
-// The highest 28 bits of a word, times x^16, to 16 bits: the powers below x^14 by x^2+x, the others, which are then x^30 and more, by x^2+1.
+// 28 bits, the highest of a word, to 16. Times x^16 the powers below x^14 go by x^2+x, and the others, from x^30 up, by x^2+1.
 fn reduce(n: u64) -> u64
     requires { ⌜ n < 2 ^ 28 ⌝ }
     ensures { λ r. ⌜ r ≡ evenPart (n * 2 ^ 36) ⌝ }
@@ -45,7 +45,8 @@ fn by_parity(n: u64, odd: u64, even: u64) -> u64
     even
 }
 
-// The CRC of a string whose words were advanced to s, and whose parity is that of all. The powers from x^28 up become lower ones first.
+// The CRC of a string whose words were advanced to s, and the exclusive or of whose words is `all`. First the powers from x^28 up become
+// lower ones, by x^14+x^13.
 pub(crate) fn finish(s: u64, all: u64) -> u16
     ensures { λ r. ⌜ r ≡ bitXor (evenPart s) (oddPart all) ⌝ }
 {

@@ -1,4 +1,4 @@
-use Prim.Native.Nat.{ℕ, _+_, _*_, _%_, _^_, _<_}
+use Prim.Native.Nat.{ℕ, _+_, _*_, _^_, _<_}
 use borrow.Author.Needs.{needs}
 use lib.Bits.{bitXor}
 use lib.Dec.{lit<}
