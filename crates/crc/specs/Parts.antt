@@ -24,7 +24,7 @@ parity (suc k) n = xor (odd n) (parity k (n / 2))
 
 -- The polynomial is (x+1)(x^15+x+1). A number of 64 bits, turned 64 times, is the xor of two parts.
 
--- the part that goes by the number's parity alone: x^15+x+1, the lowest power in the highest bit, where it is odd
+-- the part that goes by the number's parity alone: where that is odd, x^15+x+1, the lowest power in the highest bit, else 0
 unfoldable pub oddPart : ℕ → ℕ
 oddPart n = cond (parity 64 n) 0xC001 0
 

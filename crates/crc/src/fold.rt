@@ -45,8 +45,8 @@ fn by_parity(n: u64, odd: u64, even: u64) -> u64
     even
 }
 
-// The CRC of a string whose words were advanced to s, and the exclusive or of whose words is `all`. First the powers from x^28 up become
-// lower ones, by x^14+x^13.
+// The CRC of a string whose words were advanced to s, and the exclusive or of whose words is `all`. Once s is folded, the powers from x^28
+// up become lower ones too, by x^14+x^13.
 pub(crate) fn finish(s: u64, all: u64) -> u16
     ensures { λ r. ⌜ r ≡ bitXor (evenPart s) (oddPart all) ⌝ }
 {
@@ -55,7 +55,8 @@ pub(crate) fn finish(s: u64, all: u64) -> u16
     (reduce(folded >> 8 ^ high << 6 ^ high << 7) ^ by_parity(all, 0xC001, 0)) as u16
 }
 
-// The CRC of 01 and a byte. That of 01 00 is 9001, which is 5000 and x^15+x+1; the byte adds itself times x^16.
+// The CRC of 01 and a byte. That of 01 00 is 9001, and the byte adds itself times x^16. Where it is odd, the two bytes are even, and the
+// x^15+x+1 in 9001 goes: 5000.
 pub(crate) fn of_01_and(byte: u8) -> u16
     ensures { λ r. ⌜ r ≡ crc (1 ∷ byte ∷ []) ⌝ }
 {
