@@ -27,7 +27,7 @@ returns c =
     ap₂ bitXor
     (c .before .reduce .ensures
     ∙ even-narrowed (word / 2 ^ 28) (omega arith)
-    ∙ ap (evenPart) e
+    ∙ ap evenPart e
     ∙ c .before .before .fold .ensures .0)
     (c .by-parity .ensures)
 
