@@ -7,17 +7,19 @@
 # make demo   the example gateway, examples/gateway.c, over two pseudo-terminals
 # make door   the login door of a controller, examples/door.c: a rehearsal over a pseudo-terminal
 # make run    the listing of a capture: make run < FILE; of samples/line.capture where standard input is a terminal
-# make install PREFIX=..  the program capture, the library, its header and a pkg-config file
+# make mend   a frame with one flipped bit, mended: make mend < FILE; samples/damaged.capture where standard input is a terminal
+# make install PREFIX=..  the programs capture and mend, the library, its header and a pkg-config file
 CC = gcc
 CXX = g++
 CFLAGS = -std=c11 -O2 -Wall -Wextra -Werror -Iinclude
 PREFIX = /usr/local
 LIB = target/libgateway.a
 CAPTURE = target/bin/capture
+MEND = target/bin/mend
 TESTS = $(patsubst tests/c/%.c,target/tests/%,$(wildcard tests/c/*.c))
 BENCHES = $(patsubst bench/%.c,target/bench/%,$(filter-out bench/stack.c,$(wildcard bench/*.c)) bench/stack.c)
 
-.PHONY: test wrong lib bench ctest outside fuzz floats demo door run install clean
+.PHONY: test wrong lib bench ctest outside fuzz floats demo door run mend install clean
 
 test:
 	@tests/run
@@ -80,15 +82,19 @@ demo: target/examples/gateway
 door: target/examples/door
 	@target/examples/door
 
-$(CAPTURE): crates.txt $(shell find crates -name '*.rt' -o -name '*.antt')
-	@rt check capture >&2 </dev/null
+$(CAPTURE) $(MEND): target/bin/%: crates.txt $(shell find crates -name '*.rt' -o -name '*.antt')
+	@rt check $* >&2 </dev/null
 	@touch $@
 
 run: $(CAPTURE)
 	@if [ -t 0 ]; then $(CAPTURE) <samples/line.capture; else $(CAPTURE); fi
 
-install: $(CAPTURE) $(LIB)
+mend: $(MEND)
+	@if [ -t 0 ]; then $(MEND) <samples/damaged.capture; else $(MEND); fi
+
+install: $(CAPTURE) $(MEND) $(LIB)
 	install -D -m 755 $(CAPTURE) $(DESTDIR)$(PREFIX)/bin/capture
+	install -D -m 755 $(MEND) $(DESTDIR)$(PREFIX)/bin/mend
 	install -D -m 644 $(LIB) $(DESTDIR)$(PREFIX)/lib/libgateway.a
 	install -D -m 644 include/gateway.h $(DESTDIR)$(PREFIX)/include/gateway.h
 	install -d $(DESTDIR)$(PREFIX)/lib/pkgconfig

@@ -10,12 +10,13 @@ enum { SIZE = 1 << 18, PAINT = 0xA7 };
 
 static uint8_t *stack;
 static uint8_t input[4096], map[256], texts[THERMOSTAT_TEXTS], out[1 << 16];
-static uint8_t frame[69], places[62], fresh[CAPTURE_STATE], held[CAPTURE_STATE];
+static uint8_t frame[69], damaged[69], places[62], fresh[CAPTURE_STATE], held[CAPTURE_STATE];
 static size_t frame_len;
 static volatile uint64_t sink;
 
 static void frame_read(void) { sink = omnilink_frame_read(frame, frame_len); }
 static void frame_write(void) { sink = omnilink_frame_write(0x16, input, 64, out, sizeof out); }
+static void mend(void) { sink = frame_mend(damaged, sizeof damaged, out, sizeof out); }
 static void message_read(void) { sink = omnilink_message_read(frame, frame_len); }
 static void message_write(void) { sink = omnilink_message_write(0x16, input, 64, out, sizeof out); }
 static void zone(void) { sink = omnilink_zone(frame, frame_len, 31); }
@@ -77,6 +78,7 @@ int main(void)
         void (*call)(void);
     } calls[] = {
         {"omnilink_frame_read", frame_read}, {"omnilink_frame_write", frame_write},
+        {"frame_mend", mend},
         {"omnilink_message_read", message_read}, {"omnilink_message_write", message_write},
         {"omnilink_zone", zone}, {"omnistat_write_to_thermostat", omnistat_write},
         {"omnistat_write_text_to_thermostat", write_text},
@@ -92,6 +94,8 @@ int main(void)
     }
     omnilink_message_write(0x16, input, 64, frame, sizeof frame);
     frame_len = 69;
+    memcpy(damaged, frame, sizeof damaged);
+    damaged[2] ^= 1;
     for (size_t i = 0; i + 5 <= sizeof input; i += 5) {
         omnilink_frame_write(0x05, NULL, 0, input + i, 5);
     }

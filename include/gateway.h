@@ -28,13 +28,13 @@ enum gateway_answer {
     GATEWAY_LENGTH = 3,       /* length byte 00 or above 41 hex, over 64 data bytes to write, or a capture above 4,096 bytes,
                                  also in pieces */
     GATEWAY_LONG = 4,         /* more bytes or places than the frame */
-    GATEWAY_CHECKSUM = 5,     /* CRC, sum or complement is wrong */
+    GATEWAY_CHECKSUM = 5,     /* CRC, sum or complement is wrong; to frame_mend a CRC that no single flip makes right */
     GATEWAY_UNKNOWN = 6,      /* unknown type or key */
     GATEWAY_TYPE_LENGTH = 7,  /* length wrong for the type */
     GATEWAY_FIELD = 8,        /* a field outside its list; a text of more than 60 characters or with a wrong one, also in a
                                  text store; a capture's state that no pieces lead to, or not of 74 bytes; to meter_add a
                                  whole reply that is no meter reply; a door's secret with a digit above 9, its state outside
-                                 its ranges, or either not of 4 bytes */
+                                 its ranges, or either not of 4 bytes; to frame_mend a right frame */
     GATEWAY_ROOM = 9,         /* lent output too short (for a step: under 65 bytes; for a piece: for the lines of this call), a
                                  register map not of 256 bytes, or a text store not of 610 */
     /* 10 is retired by change request K4 and not used again: it stood for a cost word above 65025; every word is a cost now */
@@ -47,7 +47,7 @@ static inline unsigned gateway_number(uint64_t answer)
     return (unsigned)(answer & 0xFF);
 }
 
-/* Everything above the answer number: a count of bytes written, or a cost. */
+/* Everything above the answer number: a count of bytes written where it is the only field, or a cost. */
 static inline uint64_t gateway_value(uint64_t answer)
 {
     return answer >> 8;
@@ -60,7 +60,8 @@ static inline uint8_t gateway_byte(uint64_t answer, unsigned i)
     return (uint8_t)(answer >> 8 >> 8 * i);
 }
 
-/* The 16 bits that start i bytes above the answer number. A command has its P2 at 3. */
+/* The 16 bits that start i bytes above the answer number. A command has its P2 at 3; a mended frame has its place at 0 and its
+   count of bytes at 2. */
 static inline uint16_t gateway_word(uint64_t answer, unsigned i)
 {
     return (uint16_t)(answer >> 8 >> 8 * i);
@@ -77,6 +78,21 @@ uint64_t omnilink_frame_read(const uint8_t *bytes, size_t len);
 /* Writes the frame of a type and len data bytes to out, which has room bytes.
    Accepted: bytes written (16), len + 5. Refused: 3 more than 64 data bytes; 9 too little room. */
 uint64_t omnilink_frame_write(uint8_t type, const uint8_t *data, size_t len, uint8_t *out, size_t room);
+
+/* Mends bytes that are a frame but for one flipped bit: finds the place of that bit and writes the frame to out, which has room
+   bytes. Places are bits, counted from 0 at the length byte, the lowest bit of each byte first: place p is bit p % 8 of
+   bytes[p / 8 + 1]. The length byte has the places 0 to 7; only those after it are tried, so the least is 8. The last 16 are in
+   the two CRC bytes, and a flip there counts like any other.
+   Accepted: place (16), bytes written (16), which are len. At most one place makes a frame, since two frames of equal length
+   differ in at least four places.
+   Refused, with out unchanged, in this order: 1 to 4 as omnilink_frame_read refuses the bytes; 8 a right frame; 5 no single flip
+   of a place after the length byte makes a frame; 9 too little room. A room of len bytes is enough, and len is at most 69 here.
+   A frame with one flipped bit after the length byte always comes back, and one with two is always refused 5. The call cannot tell
+   one flipped bit from three or more that leave another frame one flip away: it then writes that other frame. A damaged start or
+   length byte is not mended: it is refused, 2 for the start, and 1, 3 or 4 for a length byte that no longer fits the number of
+   bytes. As everywhere, out must not overlap bytes: a frame is not mended in place.
+   5A 01 05 C1 92 is mended at place 24, and 5A 01 05 C1 93 is written. */
+uint64_t frame_mend(const uint8_t *bytes, size_t len, uint8_t *out, size_t room);
 
 /* Omni-Link messages: frames of the types 05, 06, 0D, 0E, 0F, 11, 13, 15, 16, 20, 21, 22, 23 and 25 (hex).
 

@@ -37,6 +37,11 @@ abbrev pub onAccepted : {A B : Type 0} → (A → B) → Outcome A → Outcome B
 onAccepted f (refused n) = refused n
 onAccepted f (accepted a) = accepted (f a)
 
+-- whether a call accepts
+abbrev pub isAccepted : {A : Type 0} → Outcome A → Bool
+isAccepted (refused n) = false
+isAccepted (accepted a) = true
+
 -- a further reading of what is accepted, which may refuse it
 abbrev pub andThen : {A B : Type 0} → Outcome A → (A → Outcome B) → Outcome B
 andThen (refused n) f = refused n

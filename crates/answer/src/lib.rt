@@ -15,7 +15,7 @@ pub enum Refusal {
     Length,
     // 4: more bytes or places than the frame.
     Long,
-    // 5: CRC, sum or complement is wrong.
+    // 5: CRC, sum or complement is wrong; to mending, a wrong CRC that no single flip makes right.
     Checksum,
     // 6: unknown type or key.
     Unknown,
@@ -23,7 +23,7 @@ pub enum Refusal {
     TypeLength,
     // 8: a field outside its list; a text too long or with a wrong character, also in a text store; a capture's state that no
     // pieces lead to, or not of 74 bytes; to a meter call a whole reply that is no meter reply; a door's secret or
-    // state outside its ranges, or not of 4 bytes.
+    // state outside its ranges, or not of 4 bytes; to mending, a right frame.
     Field,
     // 9: lent output too short, a register map not of 256 bytes, or a text store not of 610.
     Room,
@@ -114,6 +114,13 @@ pub fn pack_word(w: u16) -> u64
     ensures { λ n. ⌜ n ≡ packed (accepted (word w ∷ [])) ⌝ }
 {
     (w as u64) * 256
+}
+
+// A packed success of two words.
+pub fn pack_2_words(a: u16, b: u16) -> u64
+    ensures { λ n. ⌜ n ≡ packed (accepted (word a ∷ word b ∷ [])) ⌝ }
+{
+    (a as u64) * 256 + (b as u64) * 0x100_0000
 }
 
 // A packed count of bytes or places: in a field of 16 bits, or of 32 for the listing. As the last field's, its width moves nothing.

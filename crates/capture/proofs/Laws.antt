@@ -7,10 +7,10 @@ use lib.ListN.{length, take, drop}
 use lib.Seq.{sets, sets-eq}
 use Rattle.answer.specs.Answer.{Outcome, refused, accepted, onAccepted, outAfter}
 use Rattle.answer.proofs.Laws.Test.{not-accepted}
-use Rattle.listing.specs.Text.{number, digit, lineFeed, listing}
+use Rattle.listing.specs.Text.{number, digit, lineFeed, listing, refusedWord}
 use Rattle.listing.proofs.Laws.Answers.{only-3}
 use Rattle.listing.proofs.Laws.Numbers.{below-10}
-use Rattle.capture.specs.Printed.{refusedWord, printed}
+use Rattle.capture.specs.Printed.{printed}
 
 -- a count of bytes written is the listing's
 pub counted : (o : Outcome (List ℕ)) (n : ℕ) → accepted n ≡ onAccepted length o → n ≡ length (printed o)

@@ -1,14 +1,10 @@
 -- Document 01, "The capture listing": what the program prints of an answer.
 use Prim.Native.Nat.{ℕ}
-use mathlib.Core.List.{List, [], _∷_, _++_}
+use mathlib.Core.List.{List}
 use Rattle.answer.specs.Answer.{Outcome, refused, accepted}
-use Rattle.listing.specs.Text.{number, lineFeed}
-
--- "refused "
-abbrev pub refusedWord : List ℕ
-refusedWord = 0x72 ∷ 0x65 ∷ 0x66 ∷ 0x75 ∷ 0x73 ∷ 0x65 ∷ 0x64 ∷ 0x20 ∷ []
+use Rattle.listing.specs.Text.{refusalText}
 
 -- the listing, or only the refusal with its number
 abbrev pub printed : Outcome (List ℕ) → List ℕ
-printed (refused n) = refusedWord ++ (number n ++ (lineFeed ∷ []))
+printed (refused n) = refusalText n
 printed (accepted text) = text

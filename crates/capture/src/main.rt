@@ -8,8 +8,6 @@ ghost use Rattle.answer.specs.Answer.{refused};
 ghost use Rattle.listing.specs.Text.{listing};
 ghost use Rattle.capture.specs.Printed.{printed};
 
-const STDIN: i32 = 0;
-
 const STDOUT: i32 = 1;
 
 // One byte more than a capture may have.
@@ -50,26 +48,9 @@ fn report(bytes: &[u8], out: &mut [u8]) -> usize
     }
 }
 
-// Reads once more and answers whether anything came.
-fn more() -> bool {
-    let mut rest = [0u8; 4096];
-    0 < libc::read(STDIN, &mut rest)
-}
-
-// Reads what is left of standard input, so that whoever writes it is not cut off. The count is one that no run uses up.
-fn drain() {
-    let mut turns = u64::MAX;
-    while turns > 0 && more() {
-        turns -= 1;
-    }
-}
-
 fn main() {
     let mut capture = [0u8; TOO_MUCH];
-    let n = io::read_full(STDIN, &mut capture);
-    if n == TOO_MUCH {
-        drain();
-    }
+    let n = input::read_to_end(&mut capture);
     let mut text = [0u8; ROOM];
     let size = report(&capture[..n], &mut text);
     io::write_all(STDOUT, &text[..size]);

@@ -2,6 +2,7 @@
 pub mod Bits
 pub mod Distance
 pub mod Feed
+pub mod Flip
 pub mod Fold
 pub mod Linear
 pub mod Parity

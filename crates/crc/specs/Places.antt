@@ -1,9 +1,10 @@
--- The places at which two bit strings differ, and condition 3's bounds on them.
-use Prim.Native.Nat.{ℕ, zero, suc, _+_, _%_, _≤_}
+-- The places at which two bit strings differ, and condition 3's bounds on them; and a byte string with one bit flipped.
+use Prim.Native.Nat.{ℕ, zero, suc, _+_, _/_, _%_, _^_, _≤_}
 use mathlib.Core.Path.{_≡_}
 use mathlib.Core.Bool.{Bool, true, false, xor}
 use mathlib.Core.List.{List, [], _∷_}
-use lib.ListN.{length}
+use lib.Bits.{bitXor}
+use lib.ListN.{length, getD, set}
 
 -- where two bit strings differ, bit by bit, as far as both go
 abbrev pub differences : List Bool → List Bool → List Bool
@@ -32,3 +33,7 @@ pub record Apart (ps : List ℕ) : Type 0 where
   pub even : length ps % 2 ≡ 0
   pub four : 4 ≤ length ps
   pub wide : first ps + 16 ≤ last ps
+
+-- a byte string with the bit at place k of its bit string flipped: bit k % 8 of the byte at k / 8
+unfoldable pub flip : List ℕ → ℕ → List ℕ
+flip s k = set s (k / 8) (bitXor (getD s (k / 8) 0) (2 ^ (k % 8)))

@@ -13,7 +13,7 @@ ghost use mathlib.Core.Bool.{true};
 ghost use mathlib.Core.List.{[], _∷_};
 ghost use mathlib.Core.Path.{_≡_};
 ghost use lib.ListN.{getD};
-ghost use Rattle.crc.specs.Crc.{crc};
+ghost use Rattle.crc.specs.Crc.{crc, shift};
 
 // True only of 01 and a byte: what the CRC covers in a frame without data. In this order of questions longer strings take two
 // instructions less.
@@ -49,4 +49,15 @@ pub fn crc16(bytes: &[u8]) -> u16
         i += 8;
     }
     finish(s, all)
+}
+
+// One turn of the register with no bit put in (document 000, Appendix A). Where the register is wider than its 16 bits, a turn takes
+// two instructions less.
+pub fn turn(r: u64) -> u64
+    ensures { λ n. ⌜ n ≡ shift r ⌝ }
+{
+    if r % 2 == 1 {
+        return r / 2 ^ 0xA001;
+    }
+    r / 2
 }

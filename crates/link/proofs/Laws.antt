@@ -3,6 +3,7 @@ pub mod Bytes
 pub mod Distance
 pub mod First
 pub mod Ladder
+pub mod Remainder
 pub mod RoundTrip
 pub mod Whole
 pub mod Written

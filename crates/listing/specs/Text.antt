@@ -57,6 +57,13 @@ unfoldable pub text : List Line → List ℕ
 text [] = []
 text (l ∷ ls) = lineText l ++ text ls
 
+-- what a program prints of a refusal, and nothing else: "refused " and its number, closed by one line feed
+abbrev pub refusedWord : List ℕ
+refusedWord = 0x72 ∷ 0x65 ∷ 0x66 ∷ 0x75 ∷ 0x73 ∷ 0x65 ∷ 0x64 ∷ 0x20 ∷ []
+
+abbrev pub refusalText : ℕ → List ℕ
+refusalText n = refusedWord ++ field n lineFeed
+
 -- the most bytes of a capture
 abbrev pub longest : ℕ
 longest = 4096

@@ -3,6 +3,7 @@
 // such name, as a comment, is printed as it is. The calls are those of the C interface, whose answers are packed numbers, but for
 // meter replies, which are added in the tally's crate.
 mod captures; // the listing, of a whole capture and in pieces
+mod damaged; // damaged Omni-Link frames, mended
 mod door; // the login door
 mod input; // lines, names and digits
 mod model; // the model thermostat, temperatures, cost words and meter replies
@@ -43,7 +44,7 @@ fn named(line: &[u8], names: &[u8]) -> u64 {
 fn call_of(line: &[u8]) -> u64 {
     named(
         line,
-        b"read places\nread frame\nread message\nat thermostat\nat host\nstep\ntemperatures\ncost\nmeter\nlisting\nwrite unit\nwrite function\nwrite extended\nwrite frame\nwrite message\nto thermostat\nto host\ntext to thermostat\ntext to host\ncut\ndoor\n",
+        b"read places\nread frame\nread message\nat thermostat\nat host\nstep\ntemperatures\ncost\nmeter\nlisting\nwrite unit\nwrite function\nwrite extended\nwrite frame\nwrite message\nto thermostat\nto host\ntext to thermostat\ntext to host\ncut\ndoor\nmend\n",
     )
 }
 
@@ -74,6 +75,7 @@ fn answer_call(call: u64, bytes: &[u8]) {
         13..=18 => writers::write(call, bytes),
         19 => captures::cut(bytes),
         20 => door::step(bytes),
+        21 => damaged::mend(bytes),
         _ => {}
     }
 }

@@ -30,6 +30,7 @@ mod gateway {
             out: *mut u8,
             room: usize,
         ) -> u64;
+        pub fn frame_mend(bytes: *const u8, len: usize, out: *mut u8, room: usize) -> u64;
         pub fn omnilink_message_read(bytes: *const u8, len: usize) -> u64;
         pub fn omnilink_message_write(
             kind: u64,
@@ -170,6 +171,10 @@ pub fn omnilink_frame_write(kind: u8, data: Lent, out: Lent) -> u64 {
     unsafe {
         gateway::omnilink_frame_write(byte(kind), data.pointer, data.len, out.pointer, out.len)
     }
+}
+
+pub fn frame_mend(b: Lent, out: Lent) -> u64 {
+    unsafe { gateway::frame_mend(b.pointer, b.len, out.pointer, out.len) }
 }
 
 pub fn omnilink_message_read(b: Lent) -> u64 {

@@ -9,6 +9,7 @@ use crate::random::Random;
 pub enum Call {
     FrameRead,
     FrameWrite,
+    FrameMend,
     MessageRead,
     MessageWrite,
     Zone,
@@ -43,9 +44,10 @@ const MESSAGE_READER: &[u8] = &[1, 2, 3, 4, 5, 6, 7, 8];
 const OMNISTAT_READER: &[u8] = &[1, 2, 4, 5, 6, 7, 8];
 
 /// The calls in the order of `Call`, each with the refusals that documents 01 and 02 name for it.
-pub const CALLS: [(&str, &[u8]); 30] = [
+pub const CALLS: [(&str, &[u8]); 31] = [
     ("omnilink_frame_read", &[1, 2, 3, 4, 5]),
     ("omnilink_frame_write", &[3, 9]),
+    ("frame_mend", &[1, 2, 3, 4, 5, 8, 9]),
     ("omnilink_message_read", MESSAGE_READER),
     ("omnilink_message_write", &[6, 7, 8, 9]),
     ("omnilink_zone", MESSAGE_READER),
@@ -202,13 +204,26 @@ impl Compare {
         });
     }
 
-    /// A call that reads a buffer and writes to another one of `room` bytes.
+    /// A call that reads a buffer, writes to another one of `room` bytes and answers how many it wrote.
     fn writes(
+        &mut self,
+        call: Call,
+        arguments: (&[u8], &[u8]),
+        room: usize,
+        right: Answer<Vec<u8>>,
+        run: impl FnOnce(Lent, Lent) -> u64,
+    ) {
+        let right = right.map(|written| (written.len() as u64, written));
+        self.writes_and_answers(call, arguments, room, right, run);
+    }
+
+    /// The same, where `right` has the number that is answered, and then what is written.
+    fn writes_and_answers(
         &mut self,
         call: Call,
         (numbers, bytes): (&[u8], &[u8]),
         room: usize,
-        right: Answer<Vec<u8>>,
+        right: Answer<(u64, Vec<u8>)>,
         run: impl FnOnce(Lent, Lent) -> u64,
     ) {
         let from = self.random.below(PRIOR - room + 1);
@@ -217,8 +232,8 @@ impl Compare {
         let out = self.output.lend(prior);
         guard::announce(CALLS[call as usize].0, lent, self.passed, self.failed);
         let got = run(lent, out);
-        let written = right.as_deref().unwrap_or(&[]);
-        let right = valued(right.as_ref().map(|w| w.len() as u64).map_err(|&n| n));
+        let written = right.as_ref().map_or(&[][..], |(_, written)| written);
+        let right = valued(right.as_ref().map(|&(value, _)| value).map_err(|&n| n));
         let same = self.output.holds(out, written, &prior[written.len()..])
             && self.input.holds(lent, bytes, &[]);
         let agrees = got == right && same;
@@ -246,6 +261,18 @@ impl Compare {
         self.writes(Call::FrameWrite, (&[kind], data), room, right, |d, out| {
             calls::omnilink_frame_write(kind, d, out)
         });
+    }
+
+    pub fn frame_mend(&mut self, bytes: &[u8], room: usize) {
+        let right = paper::frame_mend(bytes, room)
+            .map(|(place, frame)| ((place + 65536 * frame.len()) as u64, frame));
+        self.writes_and_answers(
+            Call::FrameMend,
+            (&[], bytes),
+            room,
+            right,
+            calls::frame_mend,
+        );
     }
 
     pub fn message_read(&mut self, bytes: &[u8]) {

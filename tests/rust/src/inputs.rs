@@ -420,6 +420,7 @@ fn places(random: &mut Random) -> Vec<u8> {
 /// One round of random inputs to every call.
 pub fn round(compare: &mut Compare, random: &mut Random, state: &mut State) {
     omnilink(compare, random);
+    mending(compare, random);
     omnistat(compare, random);
     texts(compare, random);
     thermostat(compare, random, state);
@@ -447,6 +448,29 @@ fn omnilink(compare: &mut Compare, random: &mut Random) {
     let short = random.below(6);
     let bytes = random.bytes(short);
     compare.message_calls(&bytes, 0);
+}
+
+/// Flips bits after the length byte of a frame, now and then one twice.
+pub fn flips(random: &mut Random, mut bytes: Vec<u8>, count: usize) -> Vec<u8> {
+    let last = 8 * (bytes.len() - 1) - 1;
+    for _ in 0..count {
+        bytes = paper::flipped(&bytes, random.from(8, last));
+    }
+    bytes
+}
+
+/// Frames to mend, mostly short ones and mostly with one flip.
+fn mending(compare: &mut Compare, random: &mut Random) {
+    let most = random.pick(&[1, 8, 8, 8, 8, 8, 8, 65]);
+    let count = random.below(most);
+    let mut bytes = paper::frame(random.byte(), &random.bytes(count));
+    if random.once_in(8) {
+        damage(random, &mut bytes);
+    } else {
+        let count = random.pick(&[0, 1, 1, 1, 1, 2, 3, 4]);
+        bytes = flips(random, bytes, count);
+    }
+    compare.frame_mend(&bytes, room(random, bytes.len()));
 }
 
 fn omnistat(compare: &mut Compare, random: &mut Random) {

@@ -76,6 +76,25 @@ pub fn frame_write(kind: u8, data: &[u8], room: usize) -> Answer<Vec<u8>> {
     fit(frame(kind, data), room)
 }
 
+// Document 02, K8: the bit at a place flipped. Places are counted from the length byte, from 0, lowest bit first.
+pub fn flipped(bytes: &[u8], place: usize) -> Vec<u8> {
+    let mut bytes = bytes.to_vec();
+    bytes[1 + place / 8] ^= 1 << (place % 8);
+    bytes
+}
+
+// Document 02, K8: mending, by each flip after the length byte. Gives the place and the frame.
+pub fn frame_mend(bytes: &[u8], room: usize) -> Answer<(usize, Vec<u8>)> {
+    match frame_read(bytes) {
+        Ok(_) => return Err(FIELD),
+        Err(CHECKSUM) => (),
+        Err(number) => return Err(number),
+    }
+    let is_frame = |&place: &usize| frame_read(&flipped(bytes, place)).is_ok();
+    let place = (8..8 * (bytes.len() - 1)).find(is_frame).ok_or(CHECKSUM)?;
+    Ok((place, fit(flipped(bytes, place), room)?))
+}
+
 // Omni-Link messages: 6, 7, 8 of a type and its data bytes.
 pub fn message_check(kind: u8, data: &[u8]) -> Answer<()> {
     let length = data.len() + 1;

@@ -15,6 +15,7 @@ pub fn all(compare: &mut Compare, random: &mut Random) {
     costs(compare, random);
     meters(compare, random);
     frames(compare, random);
+    mends(compare, random);
     messages(compare, random);
     fields(compare);
     commands(compare);
@@ -57,8 +58,10 @@ fn examples(compare: &mut Compare) {
     for (bytes, answer) in frames {
         compare.fact("a frame", frame(bytes) == answer);
         compare.frame_read(bytes);
+        compare.frame_mend(bytes, 5);
         compare.message_calls(bytes, 0);
     }
+    mending_examples(compare);
     let message = paper::message_read(&[0x5A, 0x01, 0x85, 0xC0, 0x33]);
     compare.fact("type 85 as a message", message == Err(6));
     let steps: [(&[u8], &[u8], u8); 5] = [
@@ -99,6 +102,32 @@ fn examples(compare: &mut Compare) {
         paper::listing(&[], 6) == Ok(b"end 0\n".to_vec()),
     );
     text_examples(compare);
+}
+
+/// K8's example and its ends, and condition 3's pair: three of the four flips between them.
+fn mending_examples(compare: &mut Compare) {
+    let acknowledge = vec![0x5A, 0x01, 0x05, 0xC1, 0x93];
+    let other = [0x5A, 0x01, 0x85, 0xC0, 0x33];
+    let examples: [(&[u8], usize); 3] = [
+        (&[0x5A, 0x01, 0x05, 0xC1, 0x92], 24),
+        (&[0x5A, 0x01, 0x04, 0xC1, 0x93], 8),
+        (&[0x5A, 0x01, 0x05, 0xC1, 0x13], 31),
+    ];
+    for (bytes, place) in examples {
+        let right = Ok((place, acknowledge.clone()));
+        compare.fact("a mended frame", paper::frame_mend(bytes, 5) == right);
+        compare.frame_mend(bytes, 5);
+    }
+    let places = [15, 16, 29, 31];
+    for left in places {
+        let mut bytes = acknowledge.clone();
+        for place in places.into_iter().filter(|&place| place != left) {
+            bytes = paper::flipped(&bytes, place);
+        }
+        let right = Ok((left, other.to_vec()));
+        compare.fact("three flips", paper::frame_mend(&bytes, 5) == right);
+        compare.frame_mend(&bytes, 5);
+    }
 }
 
 /// The full tally of document 01, and what K5 takes and does not.
@@ -306,6 +335,7 @@ fn frames(compare: &mut Compare, random: &mut Random) {
                 .take(1)
                 .for_each(|byte| *byte = length);
             compare.frame_read(&bytes);
+            compare.frame_mend(&bytes, 69);
         }
     }
     for kind in 0..=255 {
@@ -314,6 +344,46 @@ fn frames(compare: &mut Compare, random: &mut Random) {
             compare.frame_write(kind, &data, count + 5);
             compare.frame_write(kind, &data, count + 4);
             compare.frame_write(kind, &data, random.below(100));
+        }
+    }
+}
+
+/// Each length with each place flipped, with a start byte damaged, cut at each place and with a byte too many; each room, for none to
+/// three flips; each pair of flips of short frames.
+fn mends(compare: &mut Compare, random: &mut Random) {
+    for count in 0..=64 {
+        let frame = paper::frame(random.byte(), &random.bytes(count));
+        let size = frame.len();
+        for place in 0..8 * (size - 1) {
+            let bytes = paper::flipped(&frame, place);
+            compare.frame_mend(&bytes, size);
+        }
+        for room in 0..=size + 1 {
+            for count in 0..=3 {
+                let bytes = inputs::flips(random, frame.clone(), count);
+                compare.frame_mend(&bytes, room);
+            }
+        }
+        let mut bytes = inputs::flips(random, frame, 1);
+        for cut in 0..size {
+            compare.frame_mend(&bytes[..cut], random.pick(&[0, cut, 69]));
+        }
+        bytes.push(random.byte());
+        compare.frame_mend(&bytes, random.pick(&[0, size + 1]));
+        bytes.pop();
+        bytes[0] = random.byte_from(0x5B, 0xFF);
+        compare.frame_mend(&bytes, random.pick(&[0, size]));
+    }
+    for count in 0..=4 {
+        let frame = paper::frame(random.byte(), &random.bytes(count));
+        let places = 8..8 * (frame.len() - 1);
+        for first in places.clone() {
+            let once = paper::flipped(&frame, first);
+            let same = paper::frame_mend(&once, 69) == Ok((first, frame.clone()));
+            compare.fact("a flip is found", same);
+            for second in places.clone().filter(|&second| second != first) {
+                compare.frame_mend(&paper::flipped(&once, second), frame.len());
+            }
         }
     }
 }
@@ -810,10 +880,13 @@ fn long_inputs(compare: &mut Compare) {
     let out = Region::new(1, 0).lend(&[0; 100]);
     let b = long.lend(&paper::frame(0x05, &[]));
     compare.answer(Call::FrameRead, calls::omnilink_frame_read(b), 4);
+    compare.answer(Call::FrameMend, calls::frame_mend(b, out), 4);
     compare.answer(Call::MessageRead, calls::omnilink_message_read(b), 4);
     compare.answer(Call::Listing, calls::capture_listing(b, out), 3);
     let state = Region::new(1, 0).lend(&[0; paper::CAPTURE_STATE]);
     compare.answer(Call::Piece, calls::capture_piece(state, b, out), 3);
+    let b = long.lend(&[0x5A, 0x01, 0x05, 0xC1, 0x92]);
+    compare.answer(Call::FrameMend, calls::frame_mend(b, out), 4);
     let b = long.lend(&paper::frame(0x16, &[0, 0]));
     compare.answer(Call::Zone, calls::omnilink_zone(b, 0), 4);
     let b = long.lend(&paper::frame(0x23, &[0, 0]));
@@ -954,4 +1027,9 @@ fn long_rooms(compare: &mut Compare) {
     let got = calls::thermostat_step(9, map, texts, poll, out);
     let right = paper::omnistat_text(0x89, 2, 0, 181, &[32; 32]);
     written(compare, Call::Step, got, &right);
+    let damaged = input.lend(&[0x5A, 0x01, 0x05, 0xC1, 0x92]);
+    let got = calls::frame_mend(damaged, out);
+    compare.answer(Call::FrameMend, got, 24 << 8 | 5 << 24);
+    let same = long.first().starts_with(&paper::frame(0x05, &[]));
+    compare.fact("what is mended to a room of 2^32 bytes", same);
 }

@@ -6,7 +6,8 @@ use Prim.Native.Nat.{ℕ, _<_, _≤_}
 use native.Mathlib.Omega.{arith}
 use lib.Dec.{ltb, eqb}
 use borrow.Author.Tests.{lt-ltb, le-ltb, eq-eqb, ne-eqb}
-use Rattle.answer.specs.Answer.{Outcome, refused, accepted, refuseIf, onAccepted, andThen}
+use Rattle.answer.specs.Bit.{bit}
+use Rattle.answer.specs.Answer.{Outcome, refused, accepted, refuseIf, onAccepted, andThen, isAccepted}
 
 module _ {A : Type 0} (n : ℕ) (later : Outcome A) where
   pub holds : {t : Bool} → t ≡ true → refuseIf t n later ≡ refused n
@@ -32,6 +33,11 @@ module _ {A : Type 0} (n : ℕ) (later : Outcome A) where
 pub not-accepted : {A : Type 0} (n : ℕ) (a : A) → _≡_ {A = Outcome A} (refused n) (accepted a) → ⊥
 not-accepted n a e = let z : _≡_ {A = ℕ} 0 1 = cc in omega arith
 
+-- what a call accepts
+pub is-accepted : {A : Type 0} (o : Outcome A) → isAccepted o ≡ true → (a : A) × (o ≡ accepted a)
+is-accepted (refused n) e = let z : _≡_ {A = ℕ} 0 1 = ap bit e in let no-way : ⊥ = omega arith in absurd no-way
+is-accepted (accepted a) e = (a, refl)
+
 pub same : {A : Type 0} {a b : A} → accepted a ≡ accepted b → a ≡ b
 same e = cc
 
@@ -45,6 +51,12 @@ pub passed-not : {A : Type 0} (t : Bool) (n : ℕ) (later : Outcome A) (a : A) �
     → (t ≡ true) × (later ≡ accepted a)
 passed-not true n later a e = (refl, e)
 passed-not false n later a e = absurd (not-accepted n a e)
+
+-- what is refused with another number passed the check
+pub passed-over : {A : Type 0} (t : Bool) (n m : ℕ) (later : Outcome A) → (n ≡ m → ⊥) → refuseIf t n later ≡ refused m
+    → (t ≡ false) × (later ≡ refused m)
+passed-over true n m later other e = let h : n ≡ m = cc in absurd (other h)
+passed-over false n m later other e = (refl, e)
 
 -- what stands behind an answer that was read further
 module _ {A B : Type 0} where

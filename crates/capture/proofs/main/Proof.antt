@@ -5,14 +5,11 @@ use native.Mathlib.Omega.{arith}
 use Rattle.capture.proofs.main.Statement.{statement}
 use Rattle.capture.proofs.main.Tie as tie
 
-slice-aggregate-read-full : tie.Need-slice-aggregate-read-full
-slice-aggregate-read-full c = search needs
+slice-aggregate-read-to-end : tie.Need-slice-aggregate-read-to-end
+slice-aggregate-read-to-end c = search needs
 
-read-full-requires : tie.Need-read-full-requires
-read-full-requires c κs = search needs
-
-drain-requires : tie.Need-drain-requires
-drain-requires c κs = search needs
+read-to-end-requires : tie.Need-read-to-end-requires
+read-to-end-requires c κs = search needs
 
 array-share-prefix-capture : tie.Need-array-share-prefix-capture
 array-share-prefix-capture c = search needs
@@ -44,9 +41,8 @@ pub main-spec : {M : Type 1} → statement M
 main-spec =
     tie.close
     (tie.spec
-    slice-aggregate-read-full
-    read-full-requires
-    drain-requires
+    slice-aggregate-read-to-end
+    read-to-end-requires
     array-share-prefix-capture
     slice-aggregate-report
     slice-aggregate-report-2

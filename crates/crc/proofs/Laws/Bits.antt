@@ -7,7 +7,7 @@ use native.Mathlib.Decide.{decLt}
 use native.Mathlib.Nat.{div-add-mod', pow-suc}
 use native.Mathlib.Numerals.{one-add}
 use native.Mathlib.Omega.{arith}
-use lib.Dec.{T, ltb, ltb→lt}
+use lib.Dec.{T, ltb, ltb→lt, lt→ltb}
 use lib.Ieee.Fits.{and-i, and-l, and-r}
 use lib.ListN.{length, getD, take, drop, length-append, List·getD-append}
 use lib.Pow.{shr-shr, areBytes}
@@ -85,6 +85,10 @@ pub byte-at : (s : List ℕ) → T (areBytes s) → (i : ℕ) → getD s i 0 < 2
 byte-at [] t i = omega arith
 byte-at (b ∷ s) t zero = ltb→lt b 256 (and-l (ltb b 256) (areBytes s) t)
 byte-at (b ∷ s) t (suc i) = byte-at s (and-r (ltb b 256) (areBytes s) t) i
+
+pub are-bytes : (s : List ℕ) → ((i : ℕ) → getD s i 0 < 256) → T (areBytes s)
+are-bytes [] small = tt
+are-bytes (b ∷ s) small = and-i (ltb b 256) (areBytes s) (lt→ltb b 256 (small 0)) (are-bytes s (λ i. small (suc i)))
 
 pub drop-bytes : (n : ℕ) (s : List ℕ) → T (areBytes s) → T (areBytes (drop n s))
 drop-bytes zero s t = t

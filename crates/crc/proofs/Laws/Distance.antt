@@ -5,7 +5,7 @@ use mathlib.Core.List.{List, [], _∷_, _++_}
 use Prim.Native.Nat.{ℕ, zero, suc, _+_, _*_, _/_, _%_, _^_, _<_, _≤_}
 use native.Mathlib.Decide.{decLt}
 use native.Mathlib.Omega.{arith}
-use lib.Bits.{bitXor, xor-self}
+use lib.Bits.{bitXor, xor-self, xor-lt}
 use lib.Dec.{T, ltb→lt, ltb}
 use lib.Ieee.Fits.{and-l, and-r}
 use lib.ListN.{length, take, drop}
@@ -16,13 +16,13 @@ use Rattle.crc.specs.Crc.{crc, feed}
 use Rattle.crc.specs.Places.{differences, places, first, last, Apart}
 use Rattle.crc.specs.Parts.{turns}
 use Rattle.crc.proofs.Laws.Bits.{spelled, bitString-length, bitString-append}
-use Rattle.crc.proofs.Laws.Feed.{num, turns-xor, turns-zero, feed-turns, feed-append}
+use Rattle.crc.proofs.Laws.Feed.{num, turns-xor, turns-zero, turns-nonzero, feed-turns, feed-append, feed-below}
 use Rattle.crc.proofs.Laws.Parity.{even-places}
 use Rattle.crc.proofs.Laws.Wide.{wide-places, not-two}
-use Rattle.crc.proofs.Laws.Xor.{half-digit, odd-digit, xor-digits}
+use Rattle.crc.proofs.Laws.Xor.{half-digit, odd-digit, xor-digits, xor-zero}
 
 -- the differences of two bit strings spell the xor of what the two spell
-num-differences : (r s : List Bool) → length r ≡ length s → num (differences r s) ≡ bitXor (num r) (num s)
+pub num-differences : (r s : List Bool) → length r ≡ length s → num (differences r s) ≡ bitXor (num r) (num s)
 num-differences [] [] e = refl
 num-differences [] (b ∷ s) e = let z : ⊥ = omega arith in absurd z
 num-differences (a ∷ r) [] e = let z : ⊥ = omega arith in absurd z
@@ -98,18 +98,34 @@ same-bytes (a ∷ x) (b ∷ y) tx ty e p =
     same-bytes x y (and-r (ltb a 256) (areBytes x) tx) (and-r (ltb b 256) (areBytes y) ty) (omega arith) (ap (drop 8) p) in
     cc
 
-byte-then : (b : ℕ) (bs : List Bool) → num (bitsOf 8 b ++ bs) ≡ num (bitsOf 8 b) + 256 * num bs
+pub byte-then : (b : ℕ) (bs : List Bool) → num (bitsOf 8 b ++ bs) ≡ num (bitsOf 8 b) + 256 * num bs
 byte-then b bs = omega arith
 
--- a byte string followed by its CRC, low byte first, is taken to 0
-pub residue : (s : List ℕ) (lo hi : ℕ) → lo < 256 → hi < 256 → lo + 256 * hi ≡ crc s
-    → feed 0 (bitString (s ++ (lo ∷ hi ∷ []))) ≡ 0
+crc-below : (s : List ℕ) → crc s < 2 ^ 16
 unfolding crc
-residue s lo hi l h e =
+crc-below s = feed-below 0 (bitString s) (omega arith)
+
+-- the register after a byte string and two bytes more: what the CRC differs by from these two, low byte first, turned
+taken-on : (s : List ℕ) (lo hi : ℕ) → lo < 256 → hi < 256
+    → feed 0 (bitString (s ++ (lo ∷ hi ∷ []))) ≡ turns 16 (bitXor (crc s) (lo + 256 * hi))
+unfolding crc
+taken-on s lo hi l h =
     ap (feed 0) (bitString-append s (lo ∷ hi ∷ []))
     ∙ feed-append 0 (bitString s) (bitString (lo ∷ hi ∷ []))
     ∙ feed-turns (feed 0 (bitString s)) (bitString (lo ∷ hi ∷ []))
     ∙ ap (λ (n : ℕ). turns 16 (bitXor (feed 0 (bitString s)) n))
-    (byte-then lo (bitsOf 8 hi) ∙ ap₂ (λ (x y : ℕ). x + 256 * y) (spelled 8 lo l) (spelled 8 hi h) ∙ e)
-    ∙ ap (turns 16) (xor-self (feed 0 (bitString s)))
-    ∙ turns-zero 16
+    (byte-then lo (bitsOf 8 hi) ∙ ap₂ (λ (x y : ℕ). x + 256 * y) (spelled 8 lo l) (spelled 8 hi h))
+
+-- a byte string followed by its CRC, low byte first, is taken to 0
+pub residue : (s : List ℕ) (lo hi : ℕ) → lo < 256 → hi < 256 → lo + 256 * hi ≡ crc s
+    → feed 0 (bitString (s ++ (lo ∷ hi ∷ []))) ≡ 0
+residue s lo hi l h e =
+    taken-on s lo hi l h ∙ ap (λ (n : ℕ). turns 16 (bitXor (crc s) n)) e ∙ ap (turns 16) (xor-self (crc s)) ∙ turns-zero 16
+
+-- and followed by any other two bytes it is not
+pub residue-only : (s : List ℕ) (lo hi : ℕ) → lo < 256 → hi < 256 → feed 0 (bitString (s ++ (lo ∷ hi ∷ []))) ≡ 0
+    → lo + 256 * hi ≡ crc s
+residue-only s lo hi l h e =
+    sym (xor-zero (crc s) (lo + 256 * hi)
+    (turns-nonzero 16 (bitXor (crc s) (lo + 256 * hi)) (xor-lt 16 (crc s) (lo + 256 * hi) (crc-below s) (omega arith))
+    (sym (taken-on s lo hi l h) ∙ e)))

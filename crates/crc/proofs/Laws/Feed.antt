@@ -99,3 +99,13 @@ shift-nonzero r h e = let z : r / 2 ≡ r % 2 * 0xA001 = xor-zero (r / 2) (r % 2
 pub turns-nonzero : (n r : ℕ) → r < 2 ^ 16 → turns n r ≡ 0 → r ≡ 0
 turns-nonzero zero r h e = e
 turns-nonzero (suc n) r h e = shift-nonzero r h (turns-nonzero n (shift r) (shift-lt r h) e)
+
+-- a register below 2^16 stays there while bits are fed
+pub feed-below : (r : ℕ) (bs : List Bool) → r < 2 ^ 16 → feed r bs < 2 ^ 16
+unfolding feed
+feed-below r [] h = h
+feed-below r (b ∷ bs) h = feed-below (shift (bitXor r (bit b))) bs (shift-lt (bitXor r (bit b)) (xor-lt 16 r (bit b) h (small b)))
+  where
+    small : (b : Bool) → bit b < 2 ^ 16
+    small true = omega arith
+    small false = omega arith

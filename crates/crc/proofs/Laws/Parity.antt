@@ -76,6 +76,18 @@ parity-turns (suc n) r =
     let e : suc (16 + n) ≡ 16 + suc n = omega arith in
     parity-turns n (shift r) ∙ parity-shift n r ∙ ap (λ (k : ℕ). parity k r) e
 
+-- a 1 stays odd however it is turned, so that no two of them make a third
+turned-odd : (n : ℕ) → parity 16 (turns n 1) ≡ true
+unfolding xor
+turned-odd n = parity-turns n 1 ∙ parity-more 16 n 1 (omega arith)
+
+pub three-turned : (a b c : ℕ) → bitXor (turns a 1) (turns b 1) ≡ turns c 1 → ⊥
+unfolding xor
+three-turned a b c e =
+    let even : parity 16 (bitXor (turns a 1) (turns b 1)) ≡ false = parity-xor 16 (turns a 1) (turns b 1) ∙ ap₂ xor (turned-odd a) (turned-odd b) in
+    let z : _≡_ {A = ℕ} 0 1 = ap bit (sym even ∙ ap (parity 16) e ∙ turned-odd c) in
+    omega arith
+
 -- the parity of a bit string
 abbrev parity-of : List Bool → Bool
 parity-of [] = false

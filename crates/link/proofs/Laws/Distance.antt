@@ -19,7 +19,7 @@ use Rattle.link.proofs.Laws.Whole.{Whole, whole, shape, from-start, cou
 
 -- the CRC register takes an accepted frame to 0
 module _ (s : List ℕ) (f : Frame) (bytes : T (areBytes s)) (e : readFrame s ≡ accepted f) where
-  taken : feed 0 (bitString (drop 1 s)) ≡ 0
+  pub taken : feed 0 (bitString (drop 1 s)) ≡ 0
   taken =
       let w : Whole s f = whole s f e in
       ap (λ (t : List ℕ). feed 0 (bitString t)) (shape s f w)

@@ -48,7 +48,7 @@ whole s f e =
     }
 
 -- a list of two more than n elements ends in those two
-two-left : (n : ℕ) (r : List ℕ) → length r ≡ n + 2 → r ≡ take n r ++ (getD r n 0 ∷ getD r (suc n) 0 ∷ [])
+pub two-left : (n : ℕ) (r : List ℕ) → length r ≡ n + 2 → r ≡ take n r ++ (getD r n 0 ∷ getD r (suc n) 0 ∷ [])
 two-left n [] e = let z : ⊥ = omega arith in absurd z
 two-left zero (x ∷ []) e = let z : ⊥ = omega arith in absurd z
 two-left zero (x ∷ y ∷ []) e = refl

@@ -1,6 +1,6 @@
 use native.Mathlib.Omega.{arith}
-use Rattle.capture.proofs.drain.Statement.{statement}
-use Rattle.capture.proofs.drain.Tie as tie
+use Rattle.input.proofs.drain.Statement.{statement}
+use Rattle.input.proofs.drain.Tie as tie
 
 abbrev Inv-loop : tie.InvT-loop
 Inv-loop turns₀ turns = Unit {0}

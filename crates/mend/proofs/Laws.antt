@@ -1,0 +1,3 @@
+-- The laws, a file for each subject.
+pub mod Answer
+pub mod Text

@@ -1,0 +1,3 @@
+-- What the program prints, and what its parts promise one another.
+pub mod Printed
+pub mod Parts

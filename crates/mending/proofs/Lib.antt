@@ -1,0 +1,2 @@
+-- The laws of mending.
+pub mod Laws
