@@ -51,8 +51,7 @@ pub fn crc16(bytes: &[u8]) -> u16
     finish(s, all)
 }
 
-// One turn of the register with no bit put in (document 000, Appendix A). Where the register is wider than its 16 bits, a turn takes
-// two instructions less.
+// One turn of the register with no bit put in (document 000, Appendix A). In a u16 the compiler would clear the bits above it at each turn.
 pub fn turn(r: u64) -> u64
     ensures { λ n. ⌜ n ≡ shift r ⌝ }
 {

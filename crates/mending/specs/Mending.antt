@@ -32,7 +32,7 @@ pub record Mended : Type 0 where
   pub place : ℕ
   pub frame : List ℕ
 
--- by the frame reader's answer: an already right frame is 8; its 1 to 4; where the CRC is wrong, the place whose flip makes a frame, or 5
+-- by the frame reader's answer: its 1 to 4; an already right frame is 8; where the CRC is wrong, the place whose flip makes a frame, or 5
 unfoldable pub mendBy : List ℕ → Outcome Frame → Outcome Mended
 mendBy s (accepted f) = refused 8
 mendBy s (refused n) = refuseIf (not (eqb n 5)) n (onAccepted (λ p. record { place = p; frame = flippedAt s p }) (place s))

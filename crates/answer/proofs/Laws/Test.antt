@@ -1,5 +1,5 @@
 -- One check of a definition against the fact that decides it. Assumes nothing.
-use mathlib.Core.Path.{_≡_, refl, sym, ap}
+use mathlib.Core.Path.{_≡_, refl, sym, ap, _∙_}
 use mathlib.Core.Bool.{Bool, true, false, not, cond}
 use mathlib.Core.Logic.{_⊎_, inl, inr}
 use Prim.Native.Nat.{ℕ, _<_, _≤_}
@@ -33,9 +33,13 @@ module _ {A : Type 0} (n : ℕ) (later : Outcome A) where
 pub not-accepted : {A : Type 0} (n : ℕ) (a : A) → _≡_ {A = Outcome A} (refused n) (accepted a) → ⊥
 not-accepted n a e = let z : _≡_ {A = ℕ} 0 1 = cc in omega arith
 
+-- no test both holds and fails
+pub not-both : {b : Bool} → b ≡ true → b ≡ false → ⊥
+not-both t f = let z : _≡_ {A = ℕ} 1 0 = ap bit (sym t ∙ f) in omega arith
+
 -- what a call accepts
 pub is-accepted : {A : Type 0} (o : Outcome A) → isAccepted o ≡ true → (a : A) × (o ≡ accepted a)
-is-accepted (refused n) e = let z : _≡_ {A = ℕ} 0 1 = ap bit e in let no-way : ⊥ = omega arith in absurd no-way
+is-accepted (refused n) e = absurd (not-both e refl)
 is-accepted (accepted a) e = (a, refl)
 
 pub same : {A : Type 0} {a b : A} → accepted a ≡ accepted b → a ≡ b

@@ -13,7 +13,7 @@ known : (at : tie.After-place)
     → Told (start at .args .bytes .now) (at .before .before .before .mend .last .1 .0) (at .place .given .0 .0) (at .place .given .0 .1 .0)
 known at =
     let call = at .before .before .before .mend in
-    told (start at .args .bytes .now) _ 69 (omega arith) (at .place .given .1) (call .ensures .0) (call .ensures .1)
+    told (start at .args .bytes .now) 69 (omega arith) _ (at .place .given .1) (call .ensures .0) (call .ensures .1)
 
 slice-aggregate-mend : tie.Need-slice-aggregate-mend
 slice-aggregate-mend c = search needs

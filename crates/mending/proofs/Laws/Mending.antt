@@ -10,7 +10,7 @@ use lib.ListN.{length, drop}
 use lib.Pow.{areBytes}
 use borrow.Author.Tests.{eq-eqb, ne-eqb, eqb-true, not-false}
 use Rattle.answer.specs.Answer.{Outcome, refused, accepted, refuseIf, onAccepted, isAccepted}
-use Rattle.answer.proofs.Laws.Test.{not-accepted, passed, is-accepted, on-accepted, still-refused}
+use Rattle.answer.proofs.Laws.Test.{not-both, not-accepted, passed, is-accepted, on-accepted, still-refused}
 use Rattle.crc.specs.Crc.{crc, feed}
 use Rattle.crc.specs.Parts.{turns}
 use Rattle.crc.specs.Places.{flip}
@@ -22,7 +22,7 @@ use Rattle.mending.specs.Mending.{flippedAt, makesFrame, placeFrom, plac
 use Rattle.mending.specs.Claim.{Mends, Mending}
 use Rattle.mending.specs.Parts.{placeOf}
 use Rattle.mending.proofs.Laws.Flips.{flipped-length, fits-flipped, fits-back, flipped-bytes, makes, remainder, remainder-of, one-place, only, right-has-none}
-use Rattle.mending.proofs.Laws.Search.{not-both, found-from, none-from, accepted-from, refused-from}
+use Rattle.mending.proofs.Laws.Search.{found-from, none-from, accepted-from, refused-from}
 
 abbrev pub flipping : List ℕ → ℕ → Mended
 flipping s p = record { place = p; frame = flippedAt s p }

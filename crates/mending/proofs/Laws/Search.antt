@@ -6,12 +6,8 @@ use Prim.Native.Nat.{ℕ, zero, suc, _+_, _<_, _≤_}
 use native.Mathlib.Decide.{decLt}
 use native.Mathlib.Omega.{arith}
 use Rattle.answer.specs.Answer.{refused, accepted}
-use Rattle.answer.specs.Bit.{bit}
-use Rattle.answer.proofs.Laws.Test.{not-accepted, same}
+use Rattle.answer.proofs.Laws.Test.{not-both, not-accepted, same}
 use Rattle.mending.specs.Mending.{makesFrame, placeFrom}
-
-pub not-both : {b : Bool} → b ≡ true → b ≡ false → ⊥
-not-both t f = let z : _≡_ {A = ℕ} 1 0 = ap bit (sym t ∙ f) in omega arith
 
 module _ (s : List ℕ) where
   -- the only place at which the flip makes a frame is found

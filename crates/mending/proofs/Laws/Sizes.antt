@@ -9,7 +9,7 @@ use Rattle.mending.specs.Claim.{Mends}
 use Rattle.mending.specs.Mending.{Mended, mend, mendInRoom}
 use Rattle.mending.proofs.Laws.Flips.{flipped-length}
 use Rattle.mending.proofs.Laws.Mending.{named, wrong-of-mended, damaged-size}
-use Rattle.mending.proofs.Laws.Written.{still-refused, has-room}
+use Rattle.mending.proofs.Laws.Written.{refused-in-any-room, has-room}
 
 module _ (s : List ℕ) (m : Mended) (e : mend s ≡ accepted m) where
   same-size : length (m .frame) ≡ length s
@@ -31,7 +31,7 @@ pub enough : (s : List ℕ) (room : ℕ) → 69 ≤ room → mendInRoom room s �
 enough s room h = by (mend s) refl
   where
     by : (o : Outcome Mended) → mend s ≡ o → mendInRoom room s ≡ mend s
-    by (refused n) e = still-refused s room n e ∙ sym e
+    by (refused n) e = refused-in-any-room s room n e ∙ sym e
     by (accepted m) e =
         let size = frame-size s m e in
         has-room s room m e (omega (arith, size .1)) ∙ sym e

@@ -35,9 +35,9 @@ flipped-written s old p h =
 -- ---- the answers with a room
 
 module _ (s : List ℕ) (room : ℕ) where
-  pub still-refused : (n : ℕ) → mend s ≡ refused n → mendInRoom room s ≡ refused n
+  pub refused-in-any-room : (n : ℕ) → mend s ≡ refused n → mendInRoom room s ≡ refused n
   unfolding mendInRoom
-  still-refused n e = ap (λ (o : Outcome Mended). andThen o (λ m. onAccepted (λ bytes. record { place = m .place; frame = bytes }) (inRoom room (accepted (m .frame))))) e
+  refused-in-any-room n e = ap (λ (o : Outcome Mended). andThen o (λ m. onAccepted (λ bytes. record { place = m .place; frame = bytes }) (inRoom room (accepted (m .frame))))) e
 
   module _ (m : Mended) (e : mend s ≡ accepted m) where
     in-room : mendInRoom room s ≡ onAccepted (λ (bytes : List ℕ). record { place = m .place; frame = bytes }) (inRoom room (accepted (m .frame)))

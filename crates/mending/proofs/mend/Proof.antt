@@ -2,10 +2,10 @@ use borrow.Author.Needs.{needs}
 use lib.ListN.{length}
 use mathlib.Core.Path.{_≡_, sym, ap, _∙_}
 use Rattle.answer.specs.Answer.{refused, numberOf}
-use Rattle.answer.proofs.Laws.Test.{on-accepted, still-refused as refused-below}
+use Rattle.answer.proofs.Laws.Test.{on-accepted, still-refused}
 use Rattle.link.specs.Frame.{readFrame, header, outcomeOf}
 use Rattle.mending.proofs.Laws.Mending.{right-frame, other-refusal}
-use Rattle.mending.proofs.Laws.Written.{still-refused, refusal-kept}
+use Rattle.mending.proofs.Laws.Written.{refused-in-any-room, refusal-kept}
 use Rattle.mending.proofs.mend.Statement.{statement}
 use Rattle.mending.proofs.mend.Tie as tie
 
@@ -29,8 +29,8 @@ returns c =
     let s = start .args .bytes .now in
     let old = start .args .out .now in
     let n = numberOf (told .r .given .0 .0) in
-    let below : readFrame s ≡ refused n = refused-below header (readFrame s) n (sym (read .read .ensures) ∙ ap outcomeOf (told .r .given .1)) in
-    refusal-kept s old n (still-refused s (length old) n (other-refusal s n (λ e. c .if1 .taken (c .before .number .ensures ∙ e)) below))
+    let below : readFrame s ≡ refused n = still-refused header (readFrame s) n (sym (read .read .ensures) ∙ ap outcomeOf (told .r .given .1)) in
+    refusal-kept s old n (refused-in-any-room s (length old) n (other-refusal s n (λ e. c .if1 .taken (c .before .number .ensures ∙ e)) below))
 
 mend-damaged-requires : tie.Need-mend-damaged-requires
 mend-damaged-requires c κs =
@@ -39,7 +39,7 @@ mend-damaged-requires c κs =
     let s = read .before .before .before .args .bytes .now in
     let n = numberOf (told .r .given .0 .0) in
     let five : n ≡ 5 = sym (c .before .before .number .ensures) ∙ c .before .if1 .left in
-    refused-below header (readFrame s) n (sym (read .read .ensures) ∙ ap outcomeOf (told .r .given .1)) ∙ ap refused five
+    still-refused header (readFrame s) n (sym (read .read .ensures) ∙ ap outcomeOf (told .r .given .1)) ∙ ap refused five
 
 returns-2 : tie.Need-returns-2
 returns-2 c =
@@ -48,7 +48,7 @@ returns-2 c =
     let s = start .args .bytes .now in
     let old = start .args .out .now in
     let f = on-accepted header (readFrame s) _ (sym (read .read .ensures) ∙ ap outcomeOf (c .enum-told .given .1)) in
-    refusal-kept s old 8 (still-refused s (length old) 8 (right-frame s (f .0) (f .1)))
+    refusal-kept s old 8 (refused-in-any-room s (length old) 8 (right-frame s (f .0) (f .1)))
 
 same-length : tie.Need-same-length
 same-length c = search needs

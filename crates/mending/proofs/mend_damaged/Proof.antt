@@ -7,7 +7,7 @@ use native.Mathlib.Omega.{arith}
 use Rattle.answer.specs.Answer.{refused, accepted, onAccepted}
 use Rattle.mending.proofs.Laws.Flips.{flipped-length}
 use Rattle.mending.proofs.Laws.Mending.{flipping, wrong-crc, place-mends, some-place, damaged-size}
-use Rattle.mending.proofs.Laws.Written.{still-refused, too-little, has-room, refusal-kept, frame-left}
+use Rattle.mending.proofs.Laws.Written.{refused-in-any-room, too-little, has-room, refusal-kept, frame-left}
 use Rattle.mending.proofs.mend_damaged.Statement.{statement}
 use Rattle.mending.proofs.mend_damaged.Tie as tie
 use Rattle.mending.specs.Mending.{flippedAt, place, mend}
@@ -27,7 +27,7 @@ returns c =
     let s = start .args .bytes .now in
     let old = start .args .out .now in
     let none : place s ≡ refused 5 = sym (c .before .find-place .ensures) ∙ ap placeOf (c .if1 .taken) in
-    refusal-kept s old 5 (still-refused s (length old) 5 (wrong-crc s (start .pre) ∙ ap (onAccepted (flipping s)) none))
+    refusal-kept s old 5 (refused-in-any-room s (length old) 5 (wrong-crc s (start .pre) ∙ ap (onAccepted (flipping s)) none))
 
 returns-2 : tie.Need-returns-2
 returns-2 c =
