@@ -1,4 +1,4 @@
-/* Document 01, "Omnistat2 messages", and document 02's texts, in plain C. */
+/* Document 01, "Omnistat2 messages", and document 02's texts and habits, in plain C. */
 #ifndef OMNISTAT_H
 #define OMNISTAT_H
 #include <stddef.h>
@@ -82,15 +82,24 @@ static inline unsigned request_refusal(unsigned type, const uint8_t *data, size_
     }
 }
 
-static inline unsigned reply_refusal(unsigned type, const uint8_t *data, size_t n)
+/* What a host names: the habit, numbered or printed, and the group last polled, 1 to 3. */
+enum { NUMBERED, PRINTED };
+
+static inline int is_group(unsigned group) { return group - 1 < 3; }
+
+static inline int are_named(unsigned habit, unsigned polled) { return habit <= PRINTED && is_group(polled); }
+
+static inline size_t group_length(unsigned group) { return group == 3 ? 10 : 6; }
+
+static inline unsigned reply_refusal(unsigned habit, unsigned polled, unsigned type, const uint8_t *data, size_t n)
 {
     switch (type) {
     case 0:
     case 1: return n != 0 ? 7 : 0;
     case 2: return n < 2 || n > 15 ? 7 : !run_is_allowed(data[0], n - 1) ? 8 : 0;
-    case 3:
-    case 4: return n != 6 ? 7 : 0;
-    case 5: return n != 10 ? 7 : 0;
+    case 3: return n != (habit == PRINTED ? group_length(polled) : 6) ? 7 : 0;
+    case 4: return habit == PRINTED ? 6 : n != 6 ? 7 : 0;
+    case 5: return habit == PRINTED ? 6 : n != 10 ? 7 : 0;
     default: return 6;
     }
 }

@@ -21,6 +21,11 @@ static void message_read(void) { sink = omnilink_message_read(frame, frame_len);
 static void message_write(void) { sink = omnilink_message_write(0x16, input, 64, out, sizeof out); }
 static void zone(void) { sink = omnilink_zone(frame, frame_len, 31); }
 static void omnistat_write(void) { sink = omnistat_write_to_thermostat(1, 1, (const uint8_t[]){59, 124}, 2, out, sizeof out); }
+static void write_group(void) { sink = omnistat_write_group_to_host(OMNISTAT_PRINTED, 3, 1, 3, input, 10, out, sizeof out); }
+static void group_read(void)
+{
+    sink = omnistat_read_at_host(OMNISTAT_PRINTED, 3, (const uint8_t[]){0x81, 0xA3, 1, 2, 3, 4, 5, 6, 7, 8, 9, 10, 0x5B}, 13);
+}
 static void write_text(void) { sink = omnistat_write_text_to_thermostat(1, 0, 175, (const uint8_t *)"low", 3, out, sizeof out); }
 static void take(const uint8_t *bytes, size_t len)
 {
@@ -81,6 +86,7 @@ int main(void)
         {"frame_mend", mend},
         {"omnilink_message_read", message_read}, {"omnilink_message_write", message_write},
         {"omnilink_zone", zone}, {"omnistat_write_to_thermostat", omnistat_write},
+        {"omnistat_read_at_host, a group", group_read}, {"omnistat_write_group_to_host", write_group},
         {"omnistat_write_text_to_thermostat", write_text},
         {"thermostat_step, a set", step}, {"thermostat_step, group 3", group},
         {"thermostat_step, a text set", text_set}, {"thermostat_step, a text poll", text_poll},

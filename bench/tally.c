@@ -27,7 +27,7 @@ PLAIN uint64_t plain_add(struct tally *t, const uint8_t *bytes, size_t len)
     }
     unsigned refusal = summed_refusal(right, bytes, len);
     if (refusal) return refusal;
-    refusal = reply_refusal(bytes[1] & 15, bytes + 2, bytes[1] >> 4);
+    refusal = reply_refusal(NUMBERED, 1, bytes[1] & 15, bytes + 2, bytes[1] >> 4);
     if (refusal) return refusal;
     if (bytes[1] != 0x32 || bytes[2] != 170) return 8;
     unsigned word = (unsigned)bytes[3] << 8 | bytes[4];

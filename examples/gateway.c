@@ -1,11 +1,12 @@
-/* A small site gateway. On one serial line it polls an Omnistat2 thermostat and tallies its cost readings, on another it asks
-   an Omni-Link controller for events and zones, and lists the bytes of that line as they come; it prints what it saw, and what
-   was refused and why.
+/* A small site gateway. On one serial line it polls Omnistat2 thermostat 1 and tallies its cost readings, and at last polls the
+   groups of thermostats 1 and 2, of which 1 has the numbered habit and 2 the printed one; on another it asks an Omni-Link
+   controller for events and zones, and lists the bytes of that line as they come; it prints what it saw, and what was refused
+   and why.
 
        gateway THERMOSTAT-TTY OMNILINK-TTY [CODE]   two serial lines; CODE is the security code to log in with
        gateway                                      the demonstration
 
-   In the demonstration the lines are pseudo-terminals; a child process at each plays the device and damages bytes by a
+   In the demonstration the lines are pseudo-terminals; a child process at each plays the devices and damages bytes by a
    fixed counter, so that each run prints the same. Only the demonstration changes setpoints, and shows a text on the
    thermostat's screen and reads it back. */
 #define _XOPEN_SOURCE 700
@@ -22,12 +23,13 @@
 #include <termios.h>
 #include <unistd.h>
 
-enum { ADDRESS = 1, ROUNDS = 5, TRIES = 3, FIRST_ZONE = 1, LAST_ZONE = 3 };
+enum { ADDRESS = 1, SECOND_ADDRESS = 2, ROUNDS = 5, TRIES = 3, FIRST_ZONE = 1, LAST_ZONE = 3 };
 enum { OMNISTAT_MAX = 65, FRAME_MAX = 69 };          /* the longest message, a text, and the longest frame, in bytes */
 enum { BABBLE = 2048 };                              /* a line that never falls quiet is left after so many bytes */
 enum { PIECE = 16, CAPTURE_MAX = 4096 };             /* bytes to take from a port at a time, and to list as one capture */
-enum { POLL = 0, SET = 1 };                          /* Omnistat2 types at the thermostat */
-enum { ACKNOWLEDGE = 0, NEGATIVE = 1, DATA = 2 };    /* and at the host */
+enum { GROUP_MAX = 10 };                             /* values of the longest group, group 3 */
+enum { POLL = 0, SET = 1, POLL_GROUP = 2 };          /* Omnistat2 types at the thermostat; POLL_GROUP of group 1 */
+enum { ACKNOWLEDGE = 0, NEGATIVE = 1, DATA = 2, GROUP = 3 };    /* and at the host; GROUP of group 1, and as printed of each */
 enum { COOL = 59, HEAT = 60, TEMPERATURE = 64, COST = 170, ENERGY_TEXT = 175 };
 enum { ZONE_REQUEST = 0x15, ZONES = 0x16, LOGIN = 0x20, EVENT_REQUEST = 0x22, EVENTS = 0x23 };
 
@@ -116,7 +118,14 @@ static size_t receive(int fd, int ms, uint8_t *to, size_t room)
     return (size_t)n;
 }
 
-/* ---- the thermostat */
+/* ---- the thermostats */
+
+struct thermostat {
+    const struct line *line;
+    uint8_t address;
+    uint8_t habit;     /* in answering the poll of a group */
+    uint8_t polled;    /* the group last polled; any of the three while none was */
+};
 
 struct reply {
     uint8_t bytes[OMNISTAT_MAX];
@@ -125,14 +134,14 @@ struct reply {
 
 /* Collects bytes until the reader has all it needs or the line is quiet. While a reply is too short there is room for more:
    none is longer than OMNISTAT_MAX. */
-static uint64_t read_reply(const struct line *line, struct reply *reply)
+static uint64_t read_reply(const struct thermostat *t, struct reply *reply)
 {
     uint64_t answer = GATEWAY_SHORT;
     size_t n = 1;
     for (reply->len = 0; n > 0 && gateway_number(answer) == GATEWAY_SHORT; reply->len += n) {
-        n = receive(line->fd, reply->len == 0 ? line->reply_ms : line->gap_ms, reply->bytes + reply->len,
+        n = receive(t->line->fd, reply->len == 0 ? t->line->reply_ms : t->line->gap_ms, reply->bytes + reply->len,
                     sizeof reply->bytes - reply->len);
-        answer = omnistat_read_at_host(reply->bytes, reply->len + n);
+        answer = omnistat_read_at_host(t->habit, t->polled, reply->bytes, reply->len + n);
     }
     return answer;
 }
@@ -147,28 +156,28 @@ static void await_quiet(const struct line *line)
 
 /* Sends a message, as a writer left and answered it, until its reply is accepted, TRIES times at most. Answers as
    omnistat_read_at_host does. */
-static uint64_t ask(const struct line *line, const uint8_t *message, uint64_t written, struct reply *reply)
+static uint64_t ask(const struct thermostat *t, const uint8_t *message, uint64_t written, struct reply *reply)
 {
     uint64_t answer = written;
-    for (int i = 0; i < TRIES && accepted("message to thermostat", ADDRESS, written); i++) {
-        send_all(line->fd, message, gateway_value(written));
-        answer = read_reply(line, reply);
-        if (accepted("thermostat reply, bytes", reply->len, answer) && gateway_byte(answer, 1) == ADDRESS) {
+    for (int i = 0; i < TRIES && accepted("message to thermostat", t->address, written); i++) {
+        send_all(t->line->fd, message, gateway_value(written));
+        answer = read_reply(t, reply);
+        if (accepted("thermostat reply, bytes", reply->len, answer) && gateway_byte(answer, 1) == t->address) {
             return answer;
         }
         if (gateway_number(answer) != GATEWAY_SHORT) {
-            await_quiet(line);
+            await_quiet(t->line);
         }
         answer = GATEWAY_SHORT;    /* a reply of another thermostat is none */
     }
     return answer;
 }
 
-static uint64_t ask_thermostat(const struct line *line, uint8_t type, const uint8_t *data, size_t len, struct reply *reply)
+static uint64_t ask_thermostat(const struct thermostat *t, uint8_t type, const uint8_t *data, size_t len, struct reply *reply)
 {
     uint8_t message[OMNISTAT_MAX];
-    uint64_t written = omnistat_write_to_thermostat(ADDRESS, type, data, len, message, sizeof message);
-    return ask(line, message, written, reply);
+    uint64_t written = omnistat_write_to_thermostat(t->address, type, data, len, message, sizeof message);
+    return ask(t, message, written, reply);
 }
 
 /* Prints what a thermostat answered to a set. */
@@ -181,10 +190,10 @@ static void print_set(const char *what, uint64_t answer)
 }
 
 /* Whether the thermostat gave the values of count registers from start on. */
-static bool poll_registers(const struct line *line, uint8_t start, uint8_t count, uint8_t *values)
+static bool poll_registers(const struct thermostat *t, uint8_t start, uint8_t count, uint8_t *values)
 {
     struct reply reply;
-    uint64_t answer = ask_thermostat(line, POLL, (const uint8_t[]){start, count}, 2, &reply);
+    uint64_t answer = ask_thermostat(t, POLL, (const uint8_t[]){start, count}, 2, &reply);
     bool given = gateway_number(answer) == GATEWAY_ACCEPTED && gateway_byte(answer, 0) == DATA &&
                  gateway_byte(answer, 2) == start && gateway_byte(answer, 3) == count;
     if (given) {
@@ -195,37 +204,37 @@ static bool poll_registers(const struct line *line, uint8_t start, uint8_t count
     return given;
 }
 
-static void show_setpoints(const struct line *line)
+static void show_setpoints(const struct thermostat *t)
 {
     uint8_t values[TEMPERATURE - COOL + 1];
-    if (poll_registers(line, COOL, sizeof values, values)) {
+    if (poll_registers(t, COOL, sizeof values, values)) {
         struct setpoints pair = setpoints_from_bytes(values[0], values[HEAT - COOL]);
         printf("  setpoints: cool %.1f C, heat %.1f C; temperature %.1f C\n", (double)pair.cool, (double)pair.heat,
                (double)temperature_celsius(values[TEMPERATURE - COOL]));
     }
 }
 
-static void set_setpoints(const struct line *line, struct setpoints pair)
+static void set_setpoints(const struct thermostat *t, struct setpoints pair)
 {
     struct reply reply;
     uint64_t bytes = setpoints_to_bytes(pair);
     printf("  set cool %.2f C, heat %.2f C\n", (double)pair.cool, (double)pair.heat);
-    if (accepted("setpoints to thermostat", ADDRESS, bytes)) {
+    if (accepted("setpoints to thermostat", t->address, bytes)) {
         const uint8_t data[] = {COOL, gateway_byte(bytes, 0), gateway_byte(bytes, 1)};
-        print_set("set", ask_thermostat(line, SET, data, sizeof data, &reply));
+        print_set("set", ask_thermostat(t, SET, data, sizeof data, &reply));
     }
 }
 
 /* Shows a text on the thermostat's display, and reads back what it shows. */
-static void show_text(const struct line *line, const char *text)
+static void show_text(const struct thermostat *t, const char *text)
 {
     uint8_t message[OMNISTAT_MAX];
     struct reply reply;
-    uint64_t written = omnistat_write_text_to_thermostat(ADDRESS, 0, ENERGY_TEXT, (const uint8_t *)text, strlen(text),
+    uint64_t written = omnistat_write_text_to_thermostat(t->address, 0, ENERGY_TEXT, (const uint8_t *)text, strlen(text),
                                                          message, sizeof message);
     printf("  show \"%s\"\n", text);
-    print_set("text", ask(line, message, written, &reply));
-    uint64_t answer = ask_thermostat(line, POLL, (const uint8_t[]){ENERGY_TEXT, 1}, 2, &reply);
+    print_set("text", ask(t, message, written, &reply));
+    uint64_t answer = ask_thermostat(t, POLL, (const uint8_t[]){ENERGY_TEXT, 1}, 2, &reply);
     if (gateway_number(answer) == GATEWAY_ACCEPTED && gateway_byte(answer, 0) == DATA && gateway_byte(answer, 2) == ENERGY_TEXT) {
         printf("  shown: \"%.*s\"\n", (int)gateway_byte(answer, 3), (const char *)reply.bytes + 3);
     } else {
@@ -240,10 +249,10 @@ static void print_units(uint64_t millionths, const char *end)
 }
 
 /* A reading is added once, however often its poll had to be repeated. One that is taken has its word at bytes 3 and 4. */
-static void add_cost(const struct line *line, struct tally *tally)
+static void add_cost(const struct thermostat *t, struct tally *tally)
 {
     struct reply reply;
-    uint64_t answer = ask_thermostat(line, POLL, (const uint8_t[]){COST, 2}, 2, &reply);
+    uint64_t answer = ask_thermostat(t, POLL, (const uint8_t[]){COST, 2}, 2, &reply);
     if (gateway_number(answer) != GATEWAY_ACCEPTED) {
         printf("  no meter reply\n");
     } else if (accepted("meter reply, bytes", reply.len, meter_add(tally, reply.bytes, reply.len))) {
@@ -251,6 +260,47 @@ static void add_cost(const struct line *line, struct tally *tally)
         printf("  cost word %u: ", (unsigned)word);
         print_units(gateway_value(cost_millionths(word)), ", total ");
         print_units(tally->total, "\n");
+    }
+}
+
+/* Whether the thermostat gave the values of a group. As printed every group has type 3, and the reader takes it for the one that
+   was polled last: a reply that comes late to an earlier poll would be taken for this one's, so the line has to be quiet before. */
+static bool poll_group(struct thermostat *t, uint8_t group, uint8_t *values)
+{
+    struct reply reply;
+    uint8_t type = t->habit == OMNISTAT_PRINTED ? GROUP : (uint8_t)(GROUP + group - 1);
+    if (t->habit == OMNISTAT_PRINTED) {
+        await_quiet(t->line);
+    }
+    t->polled = group;
+    uint64_t answer = ask_thermostat(t, (uint8_t)(POLL_GROUP + group - 1), NULL, 0, &reply);
+    bool given = gateway_number(answer) == GATEWAY_ACCEPTED && gateway_byte(answer, 0) == type;
+    if (given) {
+        memcpy(values, reply.bytes + 2, gateway_byte(answer, 3));
+    } else {
+        printf("  no values of group %u\n", (unsigned)group);
+    }
+    return given;
+}
+
+/* The registers of each group, in its order, but for the cost word of group 3, which is shown last. */
+static void show_groups(struct thermostat *t)
+{
+    uint8_t v[GROUP_MAX];
+    printf("groups of thermostat %u\n", (unsigned)t->address);
+    if (poll_group(t, 1, v)) {
+        printf("  group 1: cool %.1f C, heat %.1f C, mode %u, fan %u, hold %u, temperature %.1f C\n",
+               (double)temperature_celsius(v[0]), (double)temperature_celsius(v[1]), v[2], v[3], v[4],
+               (double)temperature_celsius(v[5]));
+    }
+    if (poll_group(t, 2, v)) {
+        printf("  group 2: humidity %u, dehumidify at %u, humidify at %u, outside %.1f C, filter days left %u, energy level %u\n",
+               v[0], v[1], v[2], (double)temperature_celsius(v[3]), v[4], v[5]);
+    }
+    if (poll_group(t, 3, v)) {
+        printf("  group 3: energy level %u, setbacks %u %u %u F, price %u, by level %u %u %u, cost ", v[0], v[1], v[2], v[3], v[4],
+               v[7], v[8], v[9]);
+        print_units(gateway_value(cost_millionths((uint16_t)(v[5] << 8 | v[6]))), "\n");
     }
 }
 
@@ -406,11 +456,47 @@ static void log_in(const struct line *line, struct stream *s, const char *code)
 
 /* ---- the demonstration: the devices at the other ends of the lines, each until the gateway closes its line */
 
-/* The model thermostat, in an office, with nothing on its display. Every third message finds another cost. */
-static void play_thermostat(int fd)
+struct model {
+    uint8_t own;
+    uint8_t map[256], texts[THERMOSTAT_TEXTS];
+};
+
+/* A step of the model thermostat, which has the numbered habit; how many bytes it sends. */
+static size_t step(struct model *m, const uint8_t *bytes, size_t len, uint8_t *reply)
+{
+    return gateway_value(thermostat_step(m->own, m->map, sizeof m->map, m->texts, sizeof m->texts, bytes, len, reply,
+                                         OMNISTAT_MAX));
+}
+
+/* A step of one with the printed habit: the values of a group that the model gives, under type 3. */
+static size_t step_as_printed(struct model *m, const uint8_t *bytes, size_t len, uint8_t *reply)
+{
+    uint8_t numbered[OMNISTAT_MAX];
+    uint8_t type = gateway_byte(omnistat_read_at_thermostat(bytes, len), 0);
+    size_t count = step(m, bytes, len, numbered);
+    if (count > 0 && type >= POLL_GROUP) {
+        uint8_t group = (uint8_t)(type - POLL_GROUP + 1);
+        return gateway_value(omnistat_write_group_to_host(OMNISTAT_PRINTED, group, m->own, group, numbered + 2, count - 3, reply,
+                                                          OMNISTAT_MAX));
+    }
+    memcpy(reply, numbered, count);
+    return count;
+}
+
+/* Two thermostats, in an office and in a hall, with nothing on their displays: a line of the map for each group. Every third
+   message finds another cost in the office. */
+static void play_thermostats(int fd)
 {
     static const uint16_t costs[] = {34567, 9999, 9999, 12345, 65400, 65025};
-    uint8_t map[256] = {[COOL] = 130, [HEAT] = 116, [TEMPERATURE] = 125}, texts[THERMOSTAT_TEXTS] = {0};
+    struct model office = {.own = ADDRESS,
+                           .map = {[COOL] = 130, [HEAT] = 116, [61] = 2, [TEMPERATURE] = 125,
+                                   [162] = 45, [135] = 60, [134] = 30, [68] = 130, [15] = 90, [169] = 1,
+                                   [18] = 3, [19] = 6, [20] = 9, [74] = 12, [165] = 15, [166] = 18, [167] = 24}};
+    struct model hall = {.own = SECOND_ADDRESS,
+                         .map = {[COOL] = 134, [HEAT] = 112, [61] = 3, [62] = 1, [63] = 2, [TEMPERATURE] = 121,
+                                 [162] = 50, [135] = 65, [134] = 35, [68] = 131, [15] = 7, [169] = 2,
+                                 [18] = 2, [19] = 4, [20] = 8, [74] = 18, [COST] = 0x30, [COST + 1] = 0x39, [165] = 16, [166] = 20,
+                                 [167] = 26}};
     uint8_t bytes[OMNISTAT_MAX], reply[OMNISTAT_MAX] = {0};
     size_t len = 0;
     ssize_t n;
@@ -420,13 +506,13 @@ static void play_thermostat(int fd)
             continue;
         }
         uint16_t cost = costs[messages / 3 % (sizeof costs / sizeof *costs)];
-        map[COST] = (uint8_t)(cost >> 8);
-        map[COST + 1] = (uint8_t)cost;
+        office.map[COST] = (uint8_t)(cost >> 8);
+        office.map[COST + 1] = (uint8_t)cost;
         bytes[2] ^= messages == 10 ? 0x20 : 0;    /* damaged on the way here: refused, and nothing is sent */
-        uint64_t step = thermostat_step(ADDRESS, map, sizeof map, texts, sizeof texts, bytes, len, reply, sizeof reply);
-        size_t count = gateway_value(step);
+        size_t count = step(&office, bytes, len, reply);
         reply[2] ^= messages == 4 ? 0x20 : 0;     /* damaged on the way back */
         send_all(fd, reply, messages == 7 ? count - 1 : count);    /* a byte lost */
+        send_all(fd, reply, step_as_printed(&hall, bytes, len, reply));
         messages++;
         len = 0;
     }
@@ -484,8 +570,10 @@ static int start_device(void (*play)(int fd))
 
 /* ---- the gateway */
 
-static void run(const struct line *thermostat, const struct line *controller, const char *code, bool demonstration)
+static void run(const struct line *thermostats, const struct line *controller, const char *code, bool demonstration)
 {
+    struct thermostat first = {thermostats, ADDRESS, OMNISTAT_NUMBERED, 1};
+    struct thermostat second = {thermostats, SECOND_ADDRESS, OMNISTAT_PRINTED, 1};
     /* taken; heat below the range of its register; cool no half degree */
     static const struct setpoints wishes[ROUNDS] = {[1] = {22.0f, 19.5f}, [2] = {24.0f, 5.5f}, [3] = {22.25f, 19.5f}};
     static const char *const notices[ROUNDS] = {[4] = "power low"};
@@ -498,13 +586,13 @@ static void run(const struct line *thermostat, const struct line *controller, co
     }
     for (int round = 0; round < ROUNDS; round++) {
         printf("round %d\n", round + 1);
-        show_setpoints(thermostat);
-        add_cost(thermostat, &tally);
+        show_setpoints(&first);
+        add_cost(&first, &tally);
         if (demonstration && wishes[round].cool > 0) {
-            set_setpoints(thermostat, wishes[round]);
+            set_setpoints(&first, wishes[round]);
         }
         if (demonstration && notices[round] != NULL) {
-            show_text(thermostat, notices[round]);
+            show_text(&first, notices[round]);
         }
         if (round % 2 == 0) {
             ask_controller(controller, &stream, EVENT_REQUEST, NULL, 0);
@@ -513,6 +601,8 @@ static void run(const struct line *thermostat, const struct line *controller, co
         }
     }
     end_listing(&stream);
+    show_groups(&first);
+    show_groups(&second);
     printf("total ");
     print_units(tally.total, "\n");
 }
@@ -520,15 +610,15 @@ static void run(const struct line *thermostat, const struct line *controller, co
 int main(int argc, char **argv)
 {
     /* The waits of the devices' documents, but for the last: Omni-Link asks for 50 ms, a busy host may need more. */
-    struct line thermostat = {.reply_ms = 1250, .gap_ms = 500}, controller = {.reply_ms = 1000, .gap_ms = 100};
+    struct line thermostats = {.reply_ms = 1250, .gap_ms = 500}, controller = {.reply_ms = 1000, .gap_ms = 100};
     if (argc == 1) {
-        thermostat.fd = start_device(play_thermostat);
+        thermostats.fd = start_device(play_thermostats);
         controller.fd = start_device(play_controller);
-        run(&thermostat, &controller, "1234", true);
+        run(&thermostats, &controller, "1234", true);
     } else if (argc == 3 || argc == 4) {
-        thermostat.fd = open_tty(argv[1]);
+        thermostats.fd = open_tty(argv[1]);
         controller.fd = open_tty(argv[2]);
-        run(&thermostat, &controller, argv[3], false);    /* NULL without a code */
+        run(&thermostats, &controller, argv[3], false);    /* NULL without a code */
     } else {
         fprintf(stderr, "use: gateway [THERMOSTAT-TTY OMNILINK-TTY [CODE]]\n");
         return 1;
@@ -537,7 +627,7 @@ int main(int argc, char **argv)
         fail("standard output");
     }
     close(controller.fd);
-    close(thermostat.fd);
+    close(thermostats.fd);
     while (wait(NULL) > 0) {
     }
     return 0;

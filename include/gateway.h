@@ -29,12 +29,14 @@ enum gateway_answer {
                                  also in pieces */
     GATEWAY_LONG = 4,         /* more bytes or places than the frame */
     GATEWAY_CHECKSUM = 5,     /* CRC, sum or complement is wrong; to frame_mend a CRC that no single flip makes right */
-    GATEWAY_UNKNOWN = 6,      /* unknown type or key */
-    GATEWAY_TYPE_LENGTH = 7,  /* length wrong for the type */
-    GATEWAY_FIELD = 8,        /* a field outside its list; a text of more than 60 characters or with a wrong one, also in a
-                                 text store; a capture's state that no pieces lead to, or not of 74 bytes; to meter_add a
-                                 whole reply that is no meter reply; a door's secret with a digit above 9, its state outside
-                                 its ranges, or either not of 4 bytes; to frame_mend a right frame */
+    GATEWAY_UNKNOWN = 6,      /* unknown type or key; of replies with the printed habit also types 4 and 5 */
+    GATEWAY_TYPE_LENGTH = 7,  /* length wrong for the type, or of a group reply for its group: with the printed habit the polled
+                                 one */
+    GATEWAY_FIELD = 8,        /* a field outside its list; a habit other than 0 and 1, a group outside 1 to 3, or to write with the
+                                 printed habit one that was not polled; a text of more than 60 characters or with a wrong one,
+                                 also in a text store; a capture's state that no pieces lead to, or not of 74 bytes; to
+                                 meter_add a whole reply that is no meter reply; a door's secret with a digit above 9, its
+                                 state outside its ranges, or either not of 4 bytes; to frame_mend a right frame */
     GATEWAY_ROOM = 9,         /* lent output too short (for a step: under 65 bytes; for a piece: for the lines of this call), a
                                  register map not of 256 bytes, or a text store not of 610 */
     /* 10 is retired by change request K4 and not used again: it stood for a cost word above 65025; every word is a cost now */
@@ -167,15 +169,32 @@ uint64_t login_door(const uint8_t *secret, size_t secret_len, uint8_t *state, si
    with any half-byte (high half) and the type (low half), start register, 0 to 60 characters of 20 to 7E hex, 03, sum. Its
    half-byte counts nothing and is kept as it was sent. The longest message is a text of 60 characters: 65 bytes.
 
-   The readers refuse, in this order: 1 empty; 2 a first byte that is not for their end; 1 one byte only, or fewer than N+3
-   bytes; 4 more; 5 sum; 6 unknown type; 7 N wrong for the type; 8 a poll's count outside 1 to 14, or other than 1 where the
-   poll starts at 172 to 181, or a run of registers that ends above 255, or starts below 172 and meets 172 to 181.
+   The readers refuse, in this order (the one at the host first 8 for a wrong habit or polled group, see below): 1 empty; 2 a first byte
+   that is not for their end; 1 one byte only, or fewer than N+3 bytes; 4 more; 5 sum; 6 unknown type; 7 N wrong for the type;
+   8 a poll's count outside 1 to 14, or other than 1 where the poll starts at 172 to 181, or a run of registers that ends above
+   255, or starts below 172 and meets 172 to 181.
    Of a text they refuse, in this order: 1 empty; 2 a first byte that is not for their end; 1 fewer than three bytes; where no
    03 is among the 61 bytes after the start register, 1 if fewer than 61 follow it, else 8; 1 nothing after the first 03; 4 more
    than one byte after it; 5 sum; 8 a character outside 20 to 7E.
 
    The writers of a type and data bytes refuse 6, 7 and 8 likewise, 8 also an address or number outside its list, then 9 too
-   little room. They write no text: a set or data that starts at 172 to 181 is 8, after 7. */
+   little room. They write no text: a set or data that starts at 172 to 181 is 8, after 7.
+
+   A thermostat has one of two habits in replying to the poll of a group. Numbered: the replies with groups 1, 2 and 3 have the
+   types 3, 4 and 5, and N is 6, 6 and 10. Printed, as source document 004 has it: type 3 is the reply with the group last polled,
+   N is 6 where that is 1 or 2 and 10 where it is 3, and types 4 and 5 are unknown. The bytes then do not tell group 1 from 2: a
+   late reply to the poll of one is taken for the other where that was polled since.
+   So omnistat_read_at_host, omnistat_write_to_host and omnistat_write_group_to_host take the thermostat's habit, and polled, the
+   number of the group last polled from it. Before all else, for empty input too, they refuse 8 a habit other than 0 and 1, and a
+   polled outside 1 to 3. With the numbered habit a polled of 1 to 3 decides nothing, and with either habit it decides nothing of
+   the types 0 to 2 and of texts: a host that has polled no group yet names any of the three. Habit, polled and group are bytes,
+   as address, number and type are: C makes 1 of 257 before a call is reached. */
+
+/* The habits. */
+enum omnistat_habit {
+    OMNISTAT_NUMBERED = 0,    /* types 3, 4 and 5 are groups 1, 2 and 3 */
+    OMNISTAT_PRINTED = 1      /* type 3 is the group last polled */
+};
 
 /* Reads a message at the thermostat: type (8), first byte (8), start register (8), count of registers, values or characters
    (8), half-byte of a text (8), which is 0 for every other message.
@@ -189,16 +208,36 @@ uint64_t omnistat_read_at_thermostat(const uint8_t *bytes, size_t len);
 /* Reads a message at the host: type (8), number of the thermostat (8), start register (8), count of values or characters (8),
    half-byte of a text (8), which is 0 for every other message.
    Types: 0 acknowledge, 1 negative, start and count 0; 2 data, the values from bytes[3] on, or with start 172 to 181 the
-   characters of a text; 3 to 5 group 1 to 3, start 0, the values from bytes[2] on. The first byte is 81 to FF, the number
-   and 80: FA is a reply from thermostat 7A. */
-uint64_t omnistat_read_at_host(const uint8_t *bytes, size_t len);
+   characters of a text; 3 to 5 with the numbered habit group 1 to 3, and 3 with the printed habit the group last polled, start 0,
+   the values from bytes[2] on. The type is that of the message: 3 for every group as printed. The first byte is 81 to FF, the
+   number and 80: FA is a reply from thermostat 7A.
+   Refused: 8 a habit other than 0 and 1, or polled outside 1 to 3; then as above, 6 and 7 by habit and polled.
+   81 64 01 02 03 04 05 06 FA is type 4, number 1, start 0, count 6 with the numbered habit, group 2 whatever was polled; with the
+   printed habit it is refused 6. 81 63 01 02 03 04 05 06 F9 is type 3, number 1, start 0, count 6: with the numbered habit group 1;
+   with the printed habit group 1 or 2, as polled says, and where polled is 3 it is refused 7. */
+uint64_t omnistat_read_at_host(uint8_t habit, uint8_t polled, const uint8_t *bytes, size_t len);
 
 /* Writes a message to a thermostat, of a type and its data bytes: bytes written (16). The address is 00 for all, 01 to
    7F, or FA universal. */
 uint64_t omnistat_write_to_thermostat(uint8_t address, uint8_t type, const uint8_t *data, size_t len, uint8_t *out, size_t room);
 
-/* Writes a reply to the host, of a type and its data bytes: bytes written (16). The number is the thermostat's, 01 to 7F. */
-uint64_t omnistat_write_to_host(uint8_t number, uint8_t type, const uint8_t *data, size_t len, uint8_t *out, size_t room);
+/* Writes a reply to the host, of a type and its data bytes: bytes written (16). The number is the thermostat's, 01 to 7F.
+   Refused: 8 a habit other than 0 and 1, or polled outside 1 to 3; then as above, 6 and 7 by habit and polled.
+   Number 1, type 4 and the data bytes 01 02 03 04 05 06 give 81 64 01 02 03 04 05 06 FA with the numbered habit, and are refused 6
+   with the printed. Type 3 gives 81 63 01 02 03 04 05 06 F9 with either, but with the printed habit and polled 3 it is refused 7:
+   it is the polled group's then, so that this call refuses no group as not polled. */
+uint64_t omnistat_write_to_host(uint8_t habit, uint8_t polled, uint8_t number, uint8_t type, const uint8_t *data, size_t len,
+                                uint8_t *out, size_t room);
+
+/* Writes the reply with a group, 1 to 3, to the host, of its len values: bytes written (16), len + 3. Its type is group + 2 with
+   the numbered habit, and 3 with the printed. The number is the thermostat's, 01 to 7F.
+   Refused, in this order: 8 a habit other than 0 and 1, or polled or group outside 1 to 3; 7 len other than the 6, 6 or 10 of group
+   with the numbered habit, and of polled with the printed; 8 with the printed habit a group that is not polled; 8 a number outside
+   its list; 9 too little room.
+   Number 1, group 2 and the values 01 02 03 04 05 06 give 81 64 01 02 03 04 05 06 FA with the numbered habit; with the printed
+   habit 81 63 01 02 03 04 05 06 F9 where polled is 2, 8 where it is 1, and 7 where it is 3. */
+uint64_t omnistat_write_group_to_host(uint8_t habit, uint8_t polled, uint8_t number, uint8_t group, const uint8_t *values,
+                                      size_t len, uint8_t *out, size_t room);
 
 /* Writes the set of a text register to a thermostat, of the len characters of a text: the 03 behind them is written too. The
    address is 00 for all, 01 to 7F, or FA universal; half, the half-byte, is 0 to 15, and thermostats ignore it.
@@ -208,8 +247,9 @@ uint64_t omnistat_write_to_host(uint8_t number, uint8_t type, const uint8_t *dat
 uint64_t omnistat_write_text_to_thermostat(uint8_t address, uint8_t half, uint8_t start, const uint8_t *text, size_t len,
                                            uint8_t *out, size_t room);
 
-/* Writes the data of a text register to the host. The number is the thermostat's, 01 to 7F; all else is taken and refused as in
-   omnistat_write_text_to_thermostat. Number 1, half 0, start 175 and the text HI give 81 02 AF 48 49 03 C6. */
+/* Writes the data of a text register to the host, which is the same with either habit. The number is the thermostat's, 01 to 7F;
+   all else is taken and refused as in omnistat_write_text_to_thermostat. Number 1, half 0, start 175 and the text HI give
+   81 02 AF 48 49 03 C6. */
 uint64_t omnistat_write_text_to_host(uint8_t number, uint8_t half, uint8_t start, const uint8_t *text, size_t len,
                                      uint8_t *out, size_t room);
 
@@ -232,7 +272,7 @@ enum { THERMOSTAT_TEXTS = 610 };
    register is answered with its content.
    The set of a text register stores its count and its characters and is acknowledged; a broadcast one is stored in silence. The
    bytes of the store past a count are not looked at, and stay. A poll of a text register is answered with its text as data,
-   with half-byte 0.
+   with half-byte 0. The model has the numbered habit.
    At own 1, the message 01 21 3B 7C D9 stores 7C hex, 22 degrees Celsius, in map[59] and writes 81 00 81; 00 21 3B 7C D8 stores
    it too and writes nothing. 01 21 3B 50 AD stores nothing and writes 81 01 82, and 00 21 3B 50 AC neither stores nor writes:
    50 hex is 32 degrees Fahrenheit. 01 01 AF 48 49 03 45 stores 02 48 49 hex from texts[183] on and writes 81 00 81; the poll
@@ -273,9 +313,9 @@ struct tally {
 uint64_t cost_millionths(uint16_t word);
 
 /* Adds a meter reply to a tally: the cost word of data that starts at register 170 and has exactly two registers, from any
-   thermostat. Accepted: nothing. Refused, with the tally unchanged: as omnistat_read_at_host refuses the bytes, then 8 for any
-   other message or run, a text too, then 11. 81 32 AA 87 07 EB, with the word 34567 in bytes[3], its high byte, and bytes[4],
-   adds 4567000. */
+   thermostat. Accepted: nothing. Refused, with the tally unchanged: as omnistat_read_at_host refuses the bytes with the numbered
+   habit, then 8 for any other message or run, a text too, then 11. 81 32 AA 87 07 EB, with the word 34567 in bytes[3], its high
+   byte, and bytes[4], adds 4567000. */
 uint64_t meter_add(struct tally *t, const uint8_t *bytes, size_t len);
 
 /* X-10 patterns: one byte of value 0 or 1 for each half cycle. House 0 to 15 stands for A to P, units are 1 to 16. */

@@ -3,42 +3,69 @@
 #include "gateway.h"
 #include "omnistat.h"
 
+/* The thermostat, and the host with each habit and each group last polled. */
+static const struct end ENDS[] = {{THERMOSTAT, 0, 0}, {HOST, NUMBERED, 1}, {HOST, NUMBERED, 2}, {HOST, NUMBERED, 3},
+                                  {HOST, PRINTED, 1}, {HOST, PRINTED, 2}, {HOST, PRINTED, 3}};
+enum { AT_THERMOSTAT, FIRST_HOST, END_COUNT = sizeof ENDS / sizeof *ENDS };
+
 /* Whether an address or number may be written. */
-static int is_address(enum end end, unsigned address)
+static int is_address(enum side side, unsigned address)
 {
-    return end == THERMOSTAT ? is_first(end, address) : address >= 1 && address <= 0x7F;
+    return side == THERMOSTAT ? is_first(side, address) : address >= 1 && address <= 0x7F;
 }
 
 /* Writes into bytes, which has room for all; answers as the call does. */
-static uint64_t model_write(enum end end, unsigned address, unsigned type, const uint8_t *data, size_t n, size_t room, uint8_t *bytes)
+static uint64_t model_write(struct end end, unsigned address, unsigned type, const uint8_t *data, size_t n, size_t room, uint8_t *bytes)
 {
     unsigned start, count;
+    if (!is_end(end)) {
+        return 8;
+    }
     unsigned refusal = judge(end, type, data, n, &start, &count);
     if (refusal) {
         return refusal;
     }
-    if (!is_address(end, address)) {
+    if (!is_address(end.side, address)) {
         return 8;
     }
     if (room < n + 3) {
         return 9;
     }
-    bytes[0] = (uint8_t)(end == THERMOSTAT ? address : address + 0x80);
+    bytes[0] = (uint8_t)(end.side == THERMOSTAT ? address : address + 0x80);
     bytes[1] = (uint8_t)(n << 4 | type);
     memcpy(bytes + 2, data, n);
     bytes[n + 2] = (uint8_t)sum_of(bytes, n + 2);
     return (uint64_t)(n + 3) << 8;
 }
 
+/* The type that the reply of a group has on the line. */
+static unsigned group_type(unsigned habit, unsigned group) { return habit == PRINTED ? 3 : group + 2; }
+
+/* The reply of a group, likewise. */
+static uint64_t model_write_group(struct end end, unsigned number, unsigned group, const uint8_t *values, size_t n, size_t room,
+                                  uint8_t *bytes)
+{
+    if (!is_end(end) || !is_group(group)) {
+        return 8;
+    }
+    if (n != group_length(end.habit == PRINTED ? end.polled : group)) {
+        return 7;
+    }
+    if (end.habit == PRINTED && group != end.polled) {
+        return 8;
+    }
+    return model_write(end, number, group_type(end.habit, group), values, n, room, bytes);
+}
+
 /* The numbers that a text writer is given. */
 struct text_head {
-    enum end end;
+    enum side side;
     unsigned address, half, start;
 };
 
 static uint64_t model_write_text(struct text_head h, const uint8_t *text, size_t n, size_t room, uint8_t *bytes)
 {
-    if (!is_address(h.end, h.address) || h.half > 15 || !is_text_register(h.start) || n > TEXT_MAX) {
+    if (!is_address(h.side, h.address) || h.half > 15 || !is_text_register(h.start) || n > TEXT_MAX) {
         return 8;
     }
     for (size_t i = 0; i < n; i++) {
@@ -49,8 +76,8 @@ static uint64_t model_write_text(struct text_head h, const uint8_t *text, size_t
     if (room < n + 5) {
         return 9;
     }
-    bytes[0] = (uint8_t)(h.end == THERMOSTAT ? h.address : h.address + 0x80);
-    bytes[1] = (uint8_t)(h.half << 4 | (h.end == THERMOSTAT ? 1 : 2));
+    bytes[0] = (uint8_t)(h.side == THERMOSTAT ? h.address : h.address + 0x80);
+    bytes[1] = (uint8_t)(h.half << 4 | (h.side == THERMOSTAT ? 1 : 2));
     bytes[2] = (uint8_t)h.start;
     memcpy(bytes + 3, text, n);
     bytes[n + 3] = TEXT_END;
@@ -58,19 +85,59 @@ static uint64_t model_write_text(struct text_head h, const uint8_t *text, size_t
     return (uint64_t)(n + 5) << 8;
 }
 
-static uint64_t ours_read(enum end end, const uint8_t *bytes, size_t len)
+static uint64_t ours_read(struct end end, const uint8_t *bytes, size_t len)
 {
-    return end == THERMOSTAT ? omnistat_read_at_thermostat(bytes, len) : omnistat_read_at_host(bytes, len);
+    return end.side == THERMOSTAT ? omnistat_read_at_thermostat(bytes, len)
+                                  : omnistat_read_at_host((uint8_t)end.habit, (uint8_t)end.polled, bytes, len);
+}
+
+static uint64_t ours_write(struct end end, unsigned address, unsigned type, const uint8_t *data, size_t n, uint8_t *to, size_t room)
+{
+    uint8_t habit = (uint8_t)end.habit, polled = (uint8_t)end.polled;
+    return end.side == THERMOSTAT ? omnistat_write_to_thermostat((uint8_t)address, (uint8_t)type, data, n, to, room)
+                                  : omnistat_write_to_host(habit, polled, (uint8_t)address, (uint8_t)type, data, n, to, room);
+}
+
+static uint64_t ours_write_text(struct text_head h, const uint8_t *text, size_t n, uint8_t *to, size_t room)
+{
+    uint8_t address = (uint8_t)h.address, half = (uint8_t)h.half, start = (uint8_t)h.start;
+    return h.side == THERMOSTAT ? omnistat_write_text_to_thermostat(address, half, start, text, n, to, room)
+                                : omnistat_write_text_to_host(address, half, start, text, n, to, room);
 }
 
 static struct lent in, out;
 
-/* Both ends read the bytes as the model does, and leave them alone. */
+/* A message that was read is written back by its numbers: the same bytes. */
+static void write_back(struct end end, uint64_t read, const uint8_t *bytes, size_t len)
+{
+    uint8_t back[TEXT_MAX + 5];
+    unsigned type = bits_of(read, 8, 8), address = bits_of(read, 16, 8), start = bits_of(read, 24, 8);
+    if (type == (end.side == THERMOSTAT ? 1u : 2u) && is_text_register(start)) {
+        struct text_head h = {end.side, address, bits_of(read, 40, 8), start};
+        SAME(ours_write_text(h, bytes + 3, bits_of(read, 32, 8), back, len), (uint64_t)len << 8);
+    } else {
+        SAME(ours_write(end, address, type, bytes + 2, len - 3, back, len), (uint64_t)len << 8);
+    }
+    CHECK(memcmp(back, bytes, len) == 0);
+}
+
+/* An end reads lent bytes as the model does; what it accepts is written back. */
+static void read_one(struct end end, const uint8_t *bytes, size_t len)
+{
+    uint64_t got = ours_read(end, bytes, len);
+    SAME(got, model_read(end, bytes, len));
+    if (answer_of(got) == 0) {
+        write_back(end, got, bytes, len);
+    }
+}
+
+/* The same at both ends, at the host with either habit and every polled group; the bytes are left alone. */
 static void read_both(const uint8_t *bytes, size_t len)
 {
     uint8_t *lent = lend_copy(&in, bytes, len);
-    SAME(omnistat_read_at_thermostat(lent, len), model_read(THERMOSTAT, bytes, len));
-    SAME(omnistat_read_at_host(lent, len), model_read(HOST, bytes, len));
+    for (size_t e = 0; e < END_COUNT; e++) {
+        read_one(ENDS[e], lent, len);
+    }
     CHECK(kept_from(&in, 0));
 }
 
@@ -86,14 +153,13 @@ static size_t check_written(uint64_t got, uint64_t wanted, const uint8_t *writte
 }
 
 /* Writes as the model does, and what was written is read back as the same. */
-static void write_one(enum end end, unsigned address, unsigned type, const uint8_t *data, size_t n, size_t room)
+static void write_one(struct end end, unsigned address, unsigned type, const uint8_t *data, size_t n, size_t room)
 {
     uint8_t want[LENT_MAX];
     uint64_t wanted = model_write(end, address, type, data, n, room, want);
     uint8_t *lent_data = lend_copy(&in, data, n);
     uint8_t *lent_out = lend(&out, room);
-    uint64_t got = end == THERMOSTAT ? omnistat_write_to_thermostat((uint8_t)address, (uint8_t)type, lent_data, n, lent_out, room)
-                                     : omnistat_write_to_host((uint8_t)address, (uint8_t)type, lent_data, n, lent_out, room);
+    uint64_t got = ours_write(end, address, type, lent_data, n, lent_out, room);
     size_t written = check_written(got, wanted, lent_out, want);
     if (written == 0) {
         return;
@@ -104,6 +170,32 @@ static void write_one(enum end end, unsigned address, unsigned type, const uint8
     SAME(bits_of(back, 16, 8), address);
 }
 
+/* At the host with either habit and every polled group. */
+static void write_to_hosts(unsigned number, unsigned type, const uint8_t *data, size_t n, size_t room)
+{
+    for (size_t e = FIRST_HOST; e < END_COUNT; e++) {
+        write_one(ENDS[e], number, type, data, n, room);
+    }
+}
+
+/* Writes the reply of a group as the model does, and what was written is read back whole. */
+static void write_group(struct end end, unsigned number, unsigned group, const uint8_t *values, size_t n, size_t room)
+{
+    uint8_t want[LENT_MAX];
+    uint64_t wanted = model_write_group(end, number, group, values, n, room, want);
+    uint8_t *lent_values = lend_copy(&in, values, n);
+    uint8_t *lent_out = lend(&out, room);
+    uint64_t got = omnistat_write_group_to_host((uint8_t)end.habit, (uint8_t)end.polled, (uint8_t)number, (uint8_t)group, lent_values, n,
+                                                lent_out, room);
+    size_t written = check_written(got, wanted, lent_out, want);
+    if (written == 0) {
+        return;
+    }
+    SAME(ours_read(end, lent_out, written), packed(group_type(end.habit, group), number, 0, (unsigned)n, 0));
+    CHECK(memcmp(lent_out + 2, values, n) == 0);
+    write_back(end, ours_read(end, lent_out, written), lent_out, written);
+}
+
 /* Writes a text as the model does, and what was written is read back whole. */
 static void write_text(struct text_head h, const uint8_t *text, size_t n, size_t room)
 {
@@ -111,14 +203,16 @@ static void write_text(struct text_head h, const uint8_t *text, size_t n, size_t
     uint64_t wanted = model_write_text(h, text, n, room, want);
     uint8_t *lent_text = lend_copy(&in, text, n);
     uint8_t *lent_out = lend(&out, room);
-    uint8_t address = (uint8_t)h.address, half = (uint8_t)h.half, start = (uint8_t)h.start;
-    uint64_t got = h.end == THERMOSTAT ? omnistat_write_text_to_thermostat(address, half, start, lent_text, n, lent_out, room)
-                                       : omnistat_write_text_to_host(address, half, start, lent_text, n, lent_out, room);
+    uint64_t got = ours_write_text(h, lent_text, n, lent_out, room);
     size_t written = check_written(got, wanted, lent_out, want);
     if (written == 0) {
         return;
     }
-    SAME(ours_read(h.end, lent_out, written), packed(h.end == THERMOSTAT ? 1 : 2, h.address, h.start, (unsigned)n, h.half));
+    for (size_t e = 0; e < END_COUNT; e++) {
+        if (ENDS[e].side == h.side) {
+            SAME(ours_read(ENDS[e], lent_out, written), packed(h.side == THERMOSTAT ? 1 : 2, h.address, h.start, (unsigned)n, h.half));
+        }
+    }
     CHECK(memcmp(lent_out + 3, text, n) == 0);
 }
 
@@ -175,43 +269,196 @@ static void test_runs(void)
         for (unsigned count = 0; count < 256; count++) {
             uint8_t poll[5] = {0x7F, 0x20, (uint8_t)start, (uint8_t)count};
             read_both(poll, summed(poll, 4));
-            write_one(THERMOSTAT, 1, 0, poll + 2, 2, 5);
+            write_one(ENDS[AT_THERMOSTAT], 1, 0, poll + 2, 2, 5);
         }
         for (unsigned n = 0; n < 16; n++) {
             uint8_t set[20] = {0xFA, (uint8_t)(n << 4 | 1), (uint8_t)start};
             read_both(set, summed(set, n + 2));
             set[1] = (uint8_t)(n << 4 | 2);
             read_both(set, summed(set, n + 2));
-            write_one(THERMOSTAT, 0xFA, 1, set + 2, n, 18);
-            write_one(HOST, 0x7A, 2, set + 2, n, 18);
+            write_one(ENDS[AT_THERMOSTAT], 0xFA, 1, set + 2, n, 18);
+            write_to_hosts(0x7A, 2, set + 2, n, 18);
         }
     }
 }
 
-/* Every address or number, type and count of data bytes to write, and rooms around what is needed. */
+/* Every address or number, type and count of data bytes to write, and rooms around what is needed; at the host with either habit
+   and every polled group. */
 static void test_writes(void)
 {
     uint8_t data[40];
     for (size_t i = 0; i < sizeof data; i++) {
         data[i] = (uint8_t)(i + 1);
     }
-    for (unsigned end = THERMOSTAT; end <= HOST; end++) {
+    for (size_t e = 0; e < END_COUNT; e++) {
         for (unsigned address = 0; address < 256; address++) {
             for (unsigned type = 0; type < 18; type++) {
                 for (size_t n = 0; n < 18; n++) {
-                    write_one(end, address, type, data, n, 18);
+                    write_one(ENDS[e], address, type, data, n, 18);
                 }
             }
         }
         for (unsigned type = 0; type < 256; type++) {
             for (size_t n = 0; n < 20; n++) {
                 for (size_t room = 0; room < 24; room++) {
-                    write_one(end, 1, type, data, n, room);
+                    write_one(ENDS[e], 1, type, data, n, room);
                 }
             }
         }
-        write_one(end, 1, 1, data, 40, 64);
-        write_one(end, 1, 2, data, 40, 64);
+        write_one(ENDS[e], 1, 1, data, 40, 64);
+        write_one(ENDS[e], 1, 2, data, 40, 64);
+    }
+}
+
+/* Data bytes of a reply: a run of registers from 60 on, and a group of any length. */
+static const uint8_t VALUES[LENT_MAX] = {60, 0x7C, 3, 0, 1, 0x78, 169, 18, 19, 20, 74, 0x87, 7, 165, 166, 167, 255, 128, 127};
+
+/* Replies by type and count of data bytes: those that the habits tell apart, and others. */
+static const struct reply {
+    uint8_t type, n;
+} REPLIES[] = {{3, 6}, {3, 10}, {4, 6}, {5, 10}, {3, 7}, {4, 10}, {5, 6}, {0, 0}, {1, 0}, {2, 3}, {2, 1}, {6, 6}};
+enum { REPLY_COUNT = sizeof REPLIES / sizeof *REPLIES };
+
+static size_t put_reply(uint8_t *to, unsigned number, struct reply r)
+{
+    to[0] = (uint8_t)(number + 0x80);
+    to[1] = (uint8_t)(r.n << 4 | r.type);
+    memcpy(to + 2, VALUES, r.n);
+    return summed(to, r.n + 2u);
+}
+
+/* Every habit with every polled group, also those that are none: on no bytes, on one, on a reply, on a text, on a wrong sum and on a
+   wrong direction; and to the writers, with room and with none, also for a wrong number. */
+static void test_habits(void)
+{
+    for (unsigned habit = 0; habit < 256; habit++) {
+        for (unsigned polled = 0; polled < 256; polled++) {
+            struct end end = {HOST, habit, polled};
+            struct reply r = REPLIES[(habit + polled) % REPLY_COUNT];
+            uint8_t bytes[24];
+            size_t len = put_reply(bytes, 9, r);
+            read_one(end, NULL, 0);
+            read_one(end, bytes, 1);
+            read_one(end, bytes, len);
+            len = put_text(bytes, 0x89, 0x32, 172, VALUES, 1);
+            read_one(end, bytes, len);
+            bytes[len - 1] ^= 1;
+            read_one(end, bytes, len);
+            bytes[0] = 9;
+            read_one(end, bytes, len);
+            write_one(end, 9, r.type, VALUES, r.n, 18);
+            write_one(end, 0, r.type, VALUES, r.n, 0);
+            write_group(end, 9, 1 + (habit + polled) % 3, VALUES, r.n, 18);
+            write_group(end, 128, polled, VALUES, r.n, 0);
+        }
+    }
+}
+
+/* Types 3, 4 and 5, read and written. */
+static void test_group_types(void)
+{
+    /* for six values, for ten, and for another count */
+    static const unsigned answers[][3][3] = {
+        {{0, 0, 7}, {7, 7, 0}, {7, 7, 7}},    /* numbered, whichever group was polled */
+        {{0, 6, 6}, {7, 6, 6}, {7, 6, 6}},    /* printed, polled 1 or 2 */
+        {{7, 6, 6}, {0, 6, 6}, {7, 6, 6}},    /* printed, polled 3 */
+    };
+    for (size_t e = FIRST_HOST; e < END_COUNT; e++) {
+        size_t row = ENDS[e].habit == NUMBERED ? 0 : ENDS[e].polled < 3 ? 1 : 2;
+        for (uint8_t type = 3; type <= 5; type++) {
+            for (uint8_t n = 0; n < 16; n++) {
+                uint8_t bytes[24], written[18];
+                size_t len = put_reply(bytes, 127, (struct reply){type, n});
+                unsigned want = answers[row][n == 6 ? 0 : n == 10 ? 1 : 2][type - 3];
+                SAME(ours_read(ENDS[e], bytes, len), want ? want : packed(type, 127, 0, n, 0));
+                SAME(ours_write(ENDS[e], 127, type, VALUES, n, written, sizeof written), want ? want : (uint64_t)len << 8);
+                CHECK(want || memcmp(written, bytes, len) == 0);
+            }
+        }
+    }
+}
+
+/* Every byte of a reply altered, with the sum left and made right; every cut, and a byte more. */
+static void test_damaged_replies(void)
+{
+    for (size_t i = 0; i < REPLY_COUNT; i++) {
+        uint8_t bytes[24];
+        size_t len = put_reply(bytes, 0x7F, REPLIES[i]);
+        for (size_t at = 0; at < len; at++) {
+            for (unsigned altered = 0; altered < 256; altered++) {
+                put_reply(bytes, 0x7F, REPLIES[i]);
+                bytes[at] = (uint8_t)altered;
+                read_both(bytes, len);
+                summed(bytes, len - 1);
+                read_both(bytes, len);
+            }
+        }
+        put_reply(bytes, 0x7F, REPLIES[i]);
+        bytes[len] = 0x81;
+        for (size_t cut = 0; cut <= len + 1; cut++) {
+            read_both(bytes, cut);
+        }
+    }
+}
+
+/* The replies of a group with every count of values up to 18, numbers around their bounds, and rooms around what is needed. */
+static void write_group_around(struct end end, unsigned group)
+{
+    static const unsigned numbers[] = {0, 1, 127, 128, 255};
+    for (size_t n = 0; n <= 18; n++) {
+        for (size_t i = 0; i < sizeof numbers / sizeof *numbers; i++) {
+            write_group(end, numbers[i], group, VALUES, n, 0);
+            write_group(end, numbers[i], group, VALUES, n, n);
+            for (size_t room = n + 2; room <= n + 4; room++) {
+                write_group(end, numbers[i], group, VALUES, n, room);
+            }
+        }
+    }
+}
+
+/* Each habit, polled group and group to write, also those that are none. */
+static void test_group_writes(void)
+{
+    static const unsigned habits[] = {NUMBERED, PRINTED, 2, 255}, groups[] = {0, 1, 2, 3, 4, 255};
+    enum { GROUPS = sizeof groups / sizeof *groups };
+    for (size_t h = 0; h < sizeof habits / sizeof *habits; h++) {
+        for (size_t p = 0; p < GROUPS; p++) {
+            for (size_t g = 0; g < GROUPS; g++) {
+                write_group_around((struct end){HOST, habits[h], groups[p]}, groups[g]);
+            }
+        }
+    }
+    for (size_t e = FIRST_HOST; e < END_COUNT; e++) {
+        for (unsigned k = 0; k < 256; k++) {
+            for (unsigned group = 1; group <= 3; group++) {
+                write_group(ENDS[e], k, group, VALUES, group_length(group), 18);
+                write_group(ENDS[e], 1, k, VALUES, group_length(group), group == 1 ? 0 : 18);
+            }
+        }
+        /* counts that are 6 or 10 in their low byte, and long ones */
+        for (size_t n = 256; n <= LENT_MAX; n = n < 272 ? n + 1 : n * 2) {
+            write_group(ENDS[e], 1, ENDS[e].polled, VALUES, n, 64);
+        }
+    }
+}
+
+/* With the numbered habit the polled group changes no answer and no byte that is written. */
+static void test_polled_with_numbers(void)
+{
+    for (unsigned second = 0; second < 256; second++) {
+        struct reply r = {second & 15, (uint8_t)(second >> 4)};
+        uint8_t bytes[24], first[36] = {0};
+        size_t len = put_reply(bytes, 5, r);
+        uint64_t read = omnistat_read_at_host(NUMBERED, 1, bytes, len);
+        uint64_t written = omnistat_write_to_host(NUMBERED, 1, 5, r.type, VALUES, r.n, first, 18);
+        uint64_t group = omnistat_write_group_to_host(NUMBERED, 1, 5, r.type, VALUES, r.n, first + 18, 18);
+        for (uint8_t polled = 2; polled <= 3; polled++) {
+            uint8_t other[36] = {0};
+            SAME(omnistat_read_at_host(NUMBERED, polled, bytes, len), read);
+            SAME(omnistat_write_to_host(NUMBERED, polled, 5, r.type, VALUES, r.n, other, 18), written);
+            SAME(omnistat_write_group_to_host(NUMBERED, polled, 5, r.type, VALUES, r.n, other + 18, 18), group);
+            CHECK(memcmp(other, first, sizeof other) == 0);
+        }
     }
 }
 
@@ -330,30 +577,30 @@ static void test_text_writes(void)
 {
     static uint8_t text[LENT_MAX];
     memset(text, 'n', sizeof text);
-    for (unsigned end = THERMOSTAT; end <= HOST; end++) {
+    for (unsigned side = THERMOSTAT; side <= HOST; side++) {
         for (unsigned k = 0; k < 256; k++) {
             for (size_t n = 0; n <= TEXT_MAX + 1; n += n < 59 && n > 0 ? 29 : 1) {
                 for (size_t room = n + 4; room <= n + 6; room++) {
-                    write_text((struct text_head){end, k, 2, 175}, text, n, room);
-                    write_text((struct text_head){end, 0x7F, k, 172}, text, n, room);
-                    write_text((struct text_head){end, 1, 15, k}, text, n, room);
+                    write_text((struct text_head){side, k, 2, 175}, text, n, room);
+                    write_text((struct text_head){side, 0x7F, k, 172}, text, n, room);
+                    write_text((struct text_head){side, 1, 15, k}, text, n, room);
                 }
             }
         }
         for (unsigned start = FIRST_TEXT - 1; start <= LAST_TEXT + 1; start++) {
             for (unsigned half = 0; half <= 16; half++) {
                 for (size_t n = 0; n <= TEXT_MAX + 1; n++) {
-                    write_text((struct text_head){end, 0x7A, half, start}, text, n, 65);
+                    write_text((struct text_head){side, 0x7A, half, start}, text, n, 65);
                 }
             }
         }
         for (size_t n = 0; n <= 70; n++) {
             for (size_t room = 0; room <= 80; room++) {
-                write_text((struct text_head){end, 9, 0, 181}, text, n, room);
+                write_text((struct text_head){side, 9, 0, 181}, text, n, room);
             }
         }
         for (size_t n = 61; n <= LENT_MAX; n = n < 1024 ? n + 1 : n * 2) {
-            write_text((struct text_head){end, 9, 0, 181}, text, n, n % 2 ? LENT_MAX : 64);
+            write_text((struct text_head){side, 9, 0, 181}, text, n, n % 2 ? LENT_MAX : 64);
         }
     }
 }
@@ -362,14 +609,14 @@ static void test_text_writes(void)
 static void test_text_written_characters(void)
 {
     static const size_t counts[] = {1, 2, 3, 59, 60, 61};
-    for (unsigned end = THERMOSTAT; end <= HOST; end++) {
+    for (unsigned side = THERMOSTAT; side <= HOST; side++) {
         for (size_t i = 0; i < sizeof counts / sizeof *counts; i++) {
             for (size_t place = 0; place < counts[i]; place++) {
                 for (unsigned c = 0; c < 256; c++) {
                     uint8_t text[61];
                     memset(text, ' ', sizeof text);
                     text[place] = (uint8_t)c;
-                    write_text((struct text_head){end, 1, 0, 178}, text, counts[i], c % 4 ? 65 : 0);
+                    write_text((struct text_head){side, 1, 0, 178}, text, counts[i], c % 4 ? 65 : 0);
                 }
             }
         }
@@ -418,6 +665,81 @@ static void test_random_texts(void)
     }
 }
 
+/* A habit or a polled group that is none is 8 before all else. */
+static void test_wrong_habits(void)
+{
+    static const uint8_t acknowledge[] = {0x81, 0x00, 0x81}, group[] = {0x81, 0x63, 1, 2, 3, 4, 5, 6, 0xF9};
+    static const uint8_t wrong[][2] = {{2, 1}, {255, 3}, {NUMBERED, 0}, {NUMBERED, 4}, {PRINTED, 0}, {PRINTED, 4}, {PRINTED, 255}, {2, 0}};
+    for (size_t i = 0; i < sizeof wrong / sizeof *wrong; i++) {
+        uint8_t habit = wrong[i][0], polled = wrong[i][1];
+        SAME(omnistat_read_at_host(habit, polled, NULL, 0), 8);                                 /* before 1 */
+        SAME(omnistat_read_at_host(habit, polled, group + 2, 7), 8);                            /* before 2 */
+        SAME(omnistat_read_at_host(habit, polled, group, 8), 8);
+        SAME(omnistat_read_at_host(habit, polled, acknowledge, 3), 8);
+        SAME(omnistat_write_to_host(habit, polled, 1, 15, NULL, 0, NULL, 0), 8);                /* before 6 */
+        SAME(omnistat_write_to_host(habit, polled, 1, 3, group + 2, 5, NULL, 0), 8);            /* before 7 */
+        SAME(omnistat_write_to_host(habit, polled, 1, 0, NULL, 0, NULL, 0), 8);                 /* before 9 */
+        SAME(omnistat_write_group_to_host(habit, polled, 1, 1, NULL, 0, NULL, 0), 8);
+        SAME(omnistat_write_group_to_host(habit, polled, 1, 1, group + 2, 6, NULL, 0), 8);
+    }
+}
+
+/* The other refusals of a group, in their order. */
+static void test_group_order(void)
+{
+    static const uint8_t six[] = {1, 2, 3, 4, 5, 6};
+    SAME(omnistat_read_at_host(NUMBERED, 1, NULL, 0), 1);
+    SAME(omnistat_read_at_host(PRINTED, 3, NULL, 0), 1);
+    for (uint8_t habit = NUMBERED; habit <= PRINTED; habit++) {
+        SAME(omnistat_write_group_to_host(habit, 1, 1, 0, NULL, 0, NULL, 0), 8);
+        SAME(omnistat_write_group_to_host(habit, 1, 1, 4, NULL, 0, NULL, 0), 8);
+        SAME(omnistat_write_group_to_host(habit, 1, 1, 1, NULL, 0, NULL, 0), 7);
+        SAME(omnistat_write_group_to_host(habit, 1, 0, 1, six, 5, NULL, 0), 7);          /* 7 before 8 for the number */
+        SAME(omnistat_write_group_to_host(habit, 1, 0, 1, six, 6, NULL, 0), 8);          /* 8 before 9 */
+        SAME(omnistat_write_group_to_host(habit, 1, 128, 1, six, 6, NULL, 0), 8);
+        SAME(omnistat_write_group_to_host(habit, 1, 1, 1, six, 6, NULL, 0), 9);
+    }
+    /* printed: 7 by the polled group, then 8 for a group that was not polled, before the number and the room */
+    SAME(omnistat_write_group_to_host(PRINTED, 3, 1, 1, six, 6, NULL, 0), 7);
+    SAME(omnistat_write_group_to_host(PRINTED, 1, 1, 3, VALUES, 10, NULL, 0), 7);
+    SAME(omnistat_write_group_to_host(PRINTED, 1, 1, 2, six, 6, NULL, 0), 8);
+    SAME(omnistat_write_group_to_host(PRINTED, 1, 1, 3, six, 6, NULL, 0), 8);
+    SAME(omnistat_write_group_to_host(PRINTED, 3, 0, 1, VALUES, 10, NULL, 0), 8);
+    SAME(omnistat_write_to_host(PRINTED, 1, 0, 4, six, 5, NULL, 0), 6);
+    SAME(omnistat_write_to_host(PRINTED, 3, 0, 3, six, 6, NULL, 0), 7);
+    SAME(omnistat_write_to_host(PRINTED, 3, 0, 3, VALUES, 10, NULL, 0), 8);
+    SAME(omnistat_write_to_host(PRINTED, 3, 1, 3, VALUES, 10, NULL, 0), 9);
+}
+
+/* The replies of each group as bytes, with either habit. */
+static void test_habit_examples(void)
+{
+    static const uint8_t values[] = {1, 2, 3, 4, 5, 6, 7, 8, 9, 10};
+    static const struct {
+        uint8_t habit, polled, group, n, bytes[13];
+    } examples[] = {
+        {NUMBERED, 3, 1, 6, {0x81, 0x63, 1, 2, 3, 4, 5, 6, 0xF9}},
+        {NUMBERED, 1, 2, 6, {0x81, 0x64, 1, 2, 3, 4, 5, 6, 0xFA}},
+        {NUMBERED, 2, 3, 10, {0x81, 0xA5, 1, 2, 3, 4, 5, 6, 7, 8, 9, 10, 0x5D}},
+        {PRINTED, 1, 1, 6, {0x81, 0x63, 1, 2, 3, 4, 5, 6, 0xF9}},
+        {PRINTED, 2, 2, 6, {0x81, 0x63, 1, 2, 3, 4, 5, 6, 0xF9}},
+        {PRINTED, 3, 3, 10, {0x81, 0xA3, 1, 2, 3, 4, 5, 6, 7, 8, 9, 10, 0x5B}},
+    };
+    SAME(OMNISTAT_NUMBERED, NUMBERED);
+    SAME(OMNISTAT_PRINTED, PRINTED);
+    for (size_t i = 0; i < sizeof examples / sizeof *examples; i++) {
+        uint8_t habit = examples[i].habit, polled = examples[i].polled, n = examples[i].n, written[13] = {0};
+        SAME(omnistat_write_group_to_host(habit, polled, 1, examples[i].group, values, n, written, sizeof written), (n + 3u) << 8);
+        CHECK(memcmp(written, examples[i].bytes, sizeof written) == 0);
+        SAME(omnistat_read_at_host(habit, polled, written, n + 3u), packed(written[1] & 15, 1, 0, n, 0));
+    }
+    SAME(omnistat_read_at_host(PRINTED, 2, examples[1].bytes, 9), 6);
+    SAME(omnistat_read_at_host(PRINTED, 3, examples[0].bytes, 9), 7);
+    SAME(omnistat_read_at_host(PRINTED, 1, examples[5].bytes, 13), 7);
+    SAME(omnistat_read_at_host(NUMBERED, 3, examples[5].bytes, 13), 7);
+    SAME(omnistat_read_at_host(PRINTED, 3, examples[2].bytes, 13), 6);
+}
+
 /* Bytes, and what the two ends answer: documents 02 and 004 on texts. */
 static void test_text_examples(void)
 {
@@ -428,7 +750,7 @@ static void test_text_examples(void)
     SAME(len, 19);
     SAME(bytes[18], 0xD4);
     SAME(omnistat_read_at_thermostat(bytes, len), UINT64_C(0x020EAF010100));
-    SAME(omnistat_read_at_host(bytes, len), 2);
+    SAME(omnistat_read_at_host(NUMBERED, 1, bytes, len), 2);
     bytes[18] = 0x34;
     SAME(omnistat_read_at_thermostat(bytes, len), 5);
     SAME(omnistat_read_at_thermostat(bytes, len - 1), 1);
@@ -475,7 +797,9 @@ static void test_text_examples(void)
     };
     for (size_t i = 0; i < sizeof examples / sizeof *examples; i++) {
         SAME(omnistat_read_at_thermostat(examples[i].bytes, examples[i].len), examples[i].at_thermostat);
-        SAME(omnistat_read_at_host(examples[i].bytes, examples[i].len), examples[i].at_host);
+        for (size_t e = FIRST_HOST; e < END_COUNT; e++) {
+            SAME(ours_read(ENDS[e], examples[i].bytes, examples[i].len), examples[i].at_host);
+        }
     }
 }
 
@@ -499,11 +823,11 @@ static void test_text_bounds(void)
     SAME(omnistat_read_at_thermostat(bytes, 65), 2);
     SAME(omnistat_read_at_thermostat(bytes, 3), 2);
     len = put_text(bytes, 0xFF, 0x02, 181, text, 60);
-    SAME(omnistat_read_at_host(bytes, len), UINT64_C(0x3CB57F0200));
-    SAME(omnistat_read_at_host(bytes, len + 1), 4);
+    SAME(omnistat_read_at_host(NUMBERED, 1, bytes, len), UINT64_C(0x3CB57F0200));
+    SAME(omnistat_read_at_host(NUMBERED, 1, bytes, len + 1), 4);
     len = put_text(bytes, 0xFF, 0x02, 181, text, 61);
-    SAME(omnistat_read_at_host(bytes, len), 8);
-    SAME(omnistat_read_at_host(bytes, len - 3), 1);
+    SAME(omnistat_read_at_host(NUMBERED, 1, bytes, len), 8);
+    SAME(omnistat_read_at_host(NUMBERED, 1, bytes, len - 3), 1);
 
     SAME(omnistat_write_text_to_thermostat(1, 0, 175, NULL, 0, bytes, 5), 5 << 8);
     CHECK(memcmp(bytes, (const uint8_t[]){0x01, 0x01, 0xAF, 0x03, 0xB4}, 5) == 0);
@@ -525,8 +849,8 @@ static void test_text_bounds(void)
     SAME(omnistat_write_to_thermostat(1, 1, set, 3, NULL, 0), 8);
     SAME(omnistat_write_to_thermostat(1, 1, set, 1, bytes, 18), 7);
     SAME(omnistat_write_to_thermostat(1, 1, set, 16, bytes, 18), 7);
-    SAME(omnistat_write_to_host(1, 2, set, 2, bytes, 18), 8);
-    SAME(omnistat_write_to_host(1, 2, set, 16, bytes, 18), 7);
+    SAME(omnistat_write_to_host(NUMBERED, 1, 1, 2, set, 2, bytes, 18), 8);
+    SAME(omnistat_write_to_host(NUMBERED, 1, 1, 2, set, 16, bytes, 18), 7);
     const uint8_t poll[] = {172, 1, 181, 1, 181, 2};
     SAME(omnistat_write_to_thermostat(1, 0, poll, 2, bytes, 5), 5 << 8);
     SAME(omnistat_write_to_thermostat(1, 0, poll + 2, 2, bytes, 5), 5 << 8);
@@ -538,10 +862,10 @@ static void test_examples(void)
 {
     const uint8_t poll_group[] = {0x01, 0x02, 0x03};
     SAME(omnistat_read_at_thermostat(poll_group, 3), 0x0000010200);
-    SAME(omnistat_read_at_host(poll_group, 3), 2);
+    SAME(omnistat_read_at_host(NUMBERED, 1, poll_group, 3), 2);
 
     uint8_t group[] = {0x81, 0x63, 0x7C, 0x6E, 0x03, 0x00, 0x00, 0x78, 0};
-    SAME(omnistat_read_at_host(group, summed(group, 8)), UINT64_C(0x0600010300));
+    SAME(omnistat_read_at_host(NUMBERED, 1, group, summed(group, 8)), UINT64_C(0x0600010300));
     SAME(omnistat_read_at_thermostat(group, 9), 2);
 
     uint8_t set_time[] = {0x00, 0x41, 0x41, 0x00, 0x1E, 0x0C, 0};
@@ -553,14 +877,14 @@ static void test_examples(void)
     SAME(omnistat_read_at_thermostat(set_five, summed(set_five, 4)), UINT64_C(0x013B050100));
 
     const uint8_t acknowledge[] = {0x85, 0x00, 0x85};
-    SAME(omnistat_read_at_host(acknowledge, 3), 0x050000);
+    SAME(omnistat_read_at_host(NUMBERED, 1, acknowledge, 3), 0x050000);
     const uint8_t negative[] = {0x81, 0x01, 0x82};
-    SAME(omnistat_read_at_host(negative, 3), 0x010100);
+    SAME(omnistat_read_at_host(NUMBERED, 1, negative, 3), 0x010100);
 
     /* FA: universal at the thermostat, thermostat 7A's reply at the host. */
     const uint8_t universal[] = {0xFA, 0x00, 0xFA};
     SAME(omnistat_read_at_thermostat(universal, 3), 7);
-    SAME(omnistat_read_at_host(universal, 3), 0x7A0000);
+    SAME(omnistat_read_at_host(NUMBERED, 1, universal, 3), 0x7A0000);
     const uint8_t to_all[] = {0xFA, 0x02, 0xFC};
     SAME(omnistat_read_at_thermostat(to_all, 3), 0xFA0200);
 
@@ -568,8 +892,8 @@ static void test_examples(void)
     SAME(omnistat_read_at_thermostat(unlisted, 5), UINT64_C(0x0244010000));
 
     SAME(omnistat_read_at_thermostat(NULL, 0), 1);
-    SAME(omnistat_read_at_host(NULL, 0), 1);
-    SAME(omnistat_write_to_host(1, 0, NULL, 0, NULL, 0), 9);
+    SAME(omnistat_read_at_host(NUMBERED, 1, NULL, 0), 1);
+    SAME(omnistat_write_to_host(NUMBERED, 1, 1, 0, NULL, 0, NULL, 0), 9);
     SAME(omnistat_write_to_thermostat(0x80, 2, NULL, 0, NULL, 0), 8);
 }
 
@@ -579,6 +903,11 @@ int main(void)
     test_runs();
     test_writes();
     test_random();
+    test_habits();
+    test_group_types();
+    test_damaged_replies();
+    test_group_writes();
+    test_polled_with_numbers();
     test_text_heads();
     test_text_registers();
     test_text_ends();
@@ -588,6 +917,9 @@ int main(void)
     test_text_written_characters();
     test_random_texts();
     test_examples();
+    test_wrong_habits();
+    test_group_order();
+    test_habit_examples();
     test_text_examples();
     test_text_bounds();
     return check_end();

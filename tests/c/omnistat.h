@@ -1,20 +1,51 @@
-/* Documents 01 and 02 on reading Omnistat2 messages, written out: the order of checks at both ends, and texts. */
+/* Documents 01 and 02 on reading Omnistat2 messages, written out: the order of checks at both ends, texts, and the two habits of
+   replies to group polls. */
 #ifndef OMNISTAT_H
 #define OMNISTAT_H
 #include <stddef.h>
 #include <stdint.h>
 
-enum end { THERMOSTAT, HOST };
+enum side { THERMOSTAT, HOST };
+enum { NUMBERED, PRINTED };
 enum { FIRST_TEXT = 172, LAST_TEXT = 181, TEXT_MAX = 60, TEXT_END = 0x03 };
+
+/* An end of the line; the host names the habit of the thermostat and the group last polled. */
+struct end {
+    enum side side;
+    unsigned habit, polled;
+};
+
+static inline int is_group(unsigned group) { return group >= 1 && group <= 3; }
+
+/* How many values a group has. */
+static inline size_t group_length(unsigned group) { return group == 3 ? 10 : 6; }
+
+/* Whether what the host names is a habit and a group; the thermostat names nothing. */
+static inline int is_end(struct end end)
+{
+    return end.side == THERMOSTAT || ((end.habit == NUMBERED || end.habit == PRINTED) && is_group(end.polled));
+}
+
+/* The group that a type carries to an end; 0 where it carries none. */
+static inline unsigned group_carried(struct end end, unsigned type)
+{
+    if (end.side == THERMOSTAT || type < 3 || type > 5) {
+        return 0;
+    }
+    if (end.habit == NUMBERED) {
+        return type - 2;
+    }
+    return type == 3 ? end.polled : 0;
+}
 
 static inline int is_text_register(unsigned r) { return r >= FIRST_TEXT && r <= LAST_TEXT; }
 
 static inline int is_character(unsigned c) { return c >= 0x20 && c <= 0x7E; }
 
 /* Whether a first byte is for an end. */
-static inline int is_first(enum end end, unsigned first)
+static inline int is_first(enum side side, unsigned first)
 {
-    return end == THERMOSTAT ? first <= 0x7F || first == 0xFA : first >= 0x81;
+    return side == THERMOSTAT ? first <= 0x7F || first == 0xFA : first >= 0x81;
 }
 
 static inline unsigned sum_of(const uint8_t *bytes, size_t n)
@@ -38,14 +69,13 @@ static inline int run_is_allowed(unsigned start, unsigned count)
 }
 
 /* 6, 7, 8 or 0 for a type and its data bytes; start and count of an accepted message. */
-static inline unsigned judge(enum end end, unsigned type, const uint8_t *data, size_t n, unsigned *start, unsigned *count)
+static inline unsigned judge(struct end end, unsigned type, const uint8_t *data, size_t n, unsigned *start, unsigned *count)
 {
-    static const unsigned group_length[] = {6, 6, 10};
-    int run = end == THERMOSTAT ? type == 1 : type == 2;
-    int poll = end == THERMOSTAT && type == 0;
-    int group = end == HOST && type >= 3 && type <= 5;
+    int run = end.side == THERMOSTAT ? type == 1 : type == 2;
+    int poll = end.side == THERMOSTAT && type == 0;
+    unsigned group = group_carried(end, type);
     *start = *count = 0;
-    if (type > (end == THERMOSTAT ? 4u : 5u)) {
+    if (type > (end.side == THERMOSTAT ? 4u : 2u) && !group) {
         return 6;
     }
     if (run) {
@@ -67,7 +97,7 @@ static inline unsigned judge(enum end end, unsigned type, const uint8_t *data, s
             return 8;
         }
     } else if (group) {
-        if (n != group_length[type - 3]) {
+        if (n != group_length(group)) {
             return 7;
         }
         *count = (unsigned)n;
@@ -111,19 +141,22 @@ static inline uint64_t model_read_text(unsigned address, const uint8_t *bytes, s
     return packed(bytes[1] & 15, address, bytes[2], (unsigned)count, bytes[1] >> 4);
 }
 
-static inline uint64_t model_read(enum end end, const uint8_t *bytes, size_t len)
+static inline uint64_t model_read(struct end end, const uint8_t *bytes, size_t len)
 {
+    if (!is_end(end)) {
+        return 8;
+    }
     if (len == 0) {
         return 1;
     }
-    if (!is_first(end, bytes[0])) {
+    if (!is_first(end.side, bytes[0])) {
         return 2;
     }
     if (len < 3) {
         return 1;
     }
-    unsigned address = end == THERMOSTAT ? bytes[0] : bytes[0] - 0x80;
-    if ((bytes[1] & 15) == (end == THERMOSTAT ? 1 : 2) && is_text_register(bytes[2])) {
+    unsigned address = end.side == THERMOSTAT ? bytes[0] : bytes[0] - 0x80;
+    if ((bytes[1] & 15) == (end.side == THERMOSTAT ? 1 : 2) && is_text_register(bytes[2])) {
         return model_read_text(address, bytes, len);
     }
     size_t n = bytes[1] >> 4;

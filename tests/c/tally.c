@@ -1,4 +1,4 @@
-/* Cost words, meter replies and the tally, against the rules of document 01, "Cost", and document 02, K4 and K5. */
+/* Cost words, meter replies and the tally, against the rules of document 01, "Cost", and document 02, K4, K5 and K9. */
 #include "check.h"
 #include "gateway.h"
 #include "omnistat.h"
@@ -48,7 +48,7 @@ static size_t meter_reply(uint8_t *to, unsigned number, unsigned w)
 /* The answer number, and the total afterwards: the reader's refusals, then 8, then 11. */
 static uint64_t want_add(uint64_t *total, const uint8_t *bytes, size_t len)
 {
-    uint64_t read = model_read(HOST, bytes, len);
+    uint64_t read = model_read((struct end){HOST, NUMBERED, 1}, bytes, len);
     if (answer_of(read) != 0) {
         return read;
     }
@@ -113,8 +113,9 @@ static void paper_examples(void)
     SAME(meter_add(&t, (const uint8_t[]){0x81, 0x32, 0xA9, 0x87, 0x07, 0xEA}, 6), 8);
     SAME(meter_add(&t, (const uint8_t[]){0x81, 0x42, 0xAA, 0x87, 0x07, 0x00, 0xFB}, 7), 8);
     SAME(meter_add(&t, (const uint8_t[]){0x81, 0x02, 0xAC, 0x48, 0x49, 0x03, 0xC3}, 7), 8);
-    /* group 3, which holds 170 and 171 */
+    /* group 3, which holds 170 and 171; the same as printed, with type 3, which has six values here */
     SAME(meter_add(&t, (const uint8_t[]){0x81, 0xA5, 169, 18, 19, 20, 74, 0x87, 0x07, 165, 166, 167, 0xD2}, 13), 8);
+    SAME(meter_add(&t, (const uint8_t[]){0x81, 0xA3, 169, 18, 19, 20, 74, 0x87, 0x07, 165, 166, 167, 0xD0}, 13), 7);
     SAME(t.total, 9134000);
     SAME(add_word(UINT64_MAX, 1, 0), 0);
     SAME(add_word(UINT64_MAX, 1, 60001), 11);
@@ -167,6 +168,30 @@ static void every_type(void)
             memset(data, COST, sizeof data);
             uint64_t answer = add_at(0, bytes, message(bytes, 0xFF, type, data, n));
             CHECK((answer == 0) == (type == DATA && n == 3));
+        }
+    }
+}
+
+/* Replies with a group, from every thermostat, are read with the numbered habit: a group is 8, and group 3 as the printed habit has it,
+   type 3 with ten values, is 7, whichever habit and polled group the host names elsewhere. */
+static void every_group(void)
+{
+    static const struct {
+        unsigned type;
+        size_t n;
+        uint64_t answer;
+    } groups[] = {{3, 6, 8}, {4, 6, 8}, {5, 10, 8}, {3, 10, 7}, {4, 10, 7}, {5, 6, 7}};
+    static const uint8_t values[] = {COST, 0x87, 0x07, 20, 74, 0x87, 0x07, 165, 166, 167};
+    for (unsigned number = 1; number <= 127; number++) {
+        for (size_t i = 0; i < sizeof groups / sizeof *groups; i++) {
+            uint8_t bytes[REPLY_MAX];
+            size_t len = message(bytes, 0x80 + number, groups[i].type, values, groups[i].n);
+            for (uint8_t polled = 1; polled <= 3; polled++) {
+                uint64_t printed = omnistat_read_at_host(PRINTED, polled, bytes, len);
+                CHECK((printed == 6) == (groups[i].type != 3));
+                SAME(add_at(0, bytes, len), groups[i].answer);
+                SAME(add_at(UINT64_MAX, bytes, len), groups[i].answer);
+            }
         }
     }
 }
@@ -284,6 +309,7 @@ int main(void)
     before_the_total();
     every_run();
     every_type();
+    every_group();
     every_text();
     damaged();
     every_word();

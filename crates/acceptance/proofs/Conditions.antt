@@ -12,6 +12,7 @@ use Rattle.message.specs.Lists.{zoneStatusType, eventsType, messageStatusType}
 use Rattle.message.specs.Message.{fixed}
 use Rattle.message.specs.Typed.{withList}
 use Rattle.omnistat.proofs.Laws.Omnistat as Omnistat
+use Rattle.omnistat.proofs.Laws.Heard.{written-by-type}
 use Rattle.omnistat.specs.declared.frame.End.the-variants.{Thermostat}
 use Rattle.omnistat.specs.Message.{Request, poll, setFrom, pollGroup}
 use Rattle.omnistat.specs.Omnistat.{Message, counted, text, addressed, addressedCounted, read}
@@ -95,13 +96,14 @@ condition-2 = record {
   first-frame = first-after-write;
   messages = messages;
   items = items;
-  omnistat2 = λ end. record {
-    read-back = λ a s any e. Omnistat.read-after-write end (a .address) (a .message) s e;
-    write-back = λ s a t e. Omnistat.write-after-read end (a .address) (a .message) s t e;
+  omnistat2 = λ end known. record {
+    read-back = λ a s any e. Omnistat.read-after-write end known (a .address) (a .message) s e;
+    write-back = λ s a t e. Omnistat.write-after-read end known (a .address) (a .message) s t e;
   };
-  omnistat2-counted = Omnistat.write-after-read-counted;
-  omnistat2-by-bytes = λ end address kind payload s e.
-      let b = Omnistat.read-after-write-bytes end address kind payload s e in
+  omnistat2-counted = λ end known address c s e.
+      (Omnistat.write-after-read-counted end known address c s e, written-by-type end known address c s e);
+  omnistat2-by-bytes = λ end known address kind payload s e.
+      let b = Omnistat.read-after-write-bytes end known address kind payload s e in
       (addressedCounted end address (b .0), ap (onAccepted (addressedCounted end address)) (b .1), b .2);
   patterns = record {
     read-back = λ m ps b e. PatternsBack.read-after-write m ps b e;

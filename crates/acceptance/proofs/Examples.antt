@@ -10,9 +10,9 @@ use Rattle.crc.specs.Crc.{crc, feed}
 use Rattle.link.specs.Frame.{readFrame, readBody}
 use Rattle.message.specs.Message.{readMessage, messageOf, withData, readPlain}
 use Rattle.omnistat.specs.Frame.{frame, total, bytesOf}
-use Rattle.omnistat.specs.Message.{asMessage}
+use Rattle.omnistat.specs.Message.{asMessageBy}
 use Rattle.omnistat.specs.Text.{carriesText}
-use Rattle.omnistat.specs.Omnistat.{read, readCounted}
+use Rattle.omnistat.specs.Omnistat.{readBy, readCountedBy}
 use Rattle.omnistat.specs.Register.{runAllowed}
 use Rattle.thermostat.specs.Registers.{listed, readOnly, allowed}
 use Rattle.thermostat.specs.Map.{stored}
@@ -26,7 +26,7 @@ use Rattle.acceptance.specs.Examples.{Holds, Marked-examples}
 
 pub marked-examples : Marked-examples
 unfolding Holds crc feed readFrame readBody readMessage messageOf withData readPlain
-    read readCounted carriesText frame total bytesOf asMessage runAllowed listed readOnly allowed stored allSettable sentBy after step
+    readBy readCountedBy carriesText frame total bytesOf asMessageBy runAllowed listed readOnly allowed stored allSettable sentBy after step
     millionths power readPattern writePattern readKey standard spelled codeAt indexOf houseCode unitCode
 marked-examples map texts room whole store taken fits =
     let present : 59 < length map = omega arith in

@@ -25,7 +25,7 @@ use Rattle.message.specs.declared.message.Message.{Message as Counted}
 use Rattle.omnistat.specs.declared.frame.End.{End}
 use Rattle.omnistat.specs.declared.frame.End.the-variants.{Thermostat, Host}
 use Rattle.omnistat.specs.declared.group.Group.{Group}
-use Rattle.omnistat.specs.Message.{Counted as CountedMessage, poll, setFrom, pollGroup, asMessage}
+use Rattle.omnistat.specs.Message.{Counted as CountedMessage, Known, poll, setFrom, pollGroup, asMessageBy, bodyBy}
 use Rattle.omnistat.specs.Text.{Text}
 use Rattle.omnistat.specs.Omnistat as Omnistat
 use Rattle.thermostat.specs.Map.{content}
@@ -148,11 +148,15 @@ pub record Condition-2 : Type 0 where
   pub first-frame : (kind : ℕ) (d s rest : List ℕ) → writeFrame kind d ≡ accepted s → readFirst (s ++ rest) ≡ accepted (record { kind = kind; bytes = d })
   pub messages : Messages-read-back
   pub items : (s : List ℕ) → Items s
-  pub omnistat2 : (end : End) → Inverse (Omnistat.read end) (λ a. Omnistat.write end (a .address) (a .message)) Any Bytes
-  pub omnistat2-counted : (end : End) (address : ℕ) (c : CountedMessage end) (s : List ℕ)
-      → Omnistat.read end s ≡ accepted (Omnistat.addressedCounted end address c) → Omnistat.write end address (Omnistat.counted c) ≡ accepted s
-  pub omnistat2-by-bytes : (end : End) (address kind : ℕ) (payload : List ℕ)
-      → ReadsBack (Omnistat.read end) (onAccepted (Omnistat.addressedCounted end address) (asMessage end kind payload)) (Omnistat.writeBytes end address kind payload)
+  pub omnistat2 : (end : End) (known : Known end)
+      → Inverse (Omnistat.readBy end known) (λ a. Omnistat.writeBy end known (a .address) (a .message)) Any Bytes
+  pub omnistat2-counted : (end : End) (known : Known end) (address : ℕ) (c : CountedMessage end) (s : List ℕ)
+      → Omnistat.readBy end known s ≡ accepted (Omnistat.addressedCounted end address c)
+      → (Omnistat.writeBy end known address (Omnistat.counted c) ≡ accepted s)
+      × (Omnistat.writeBytesBy end known address (bodyBy end known c .kind) (bodyBy end known c .payload) ≡ accepted s)
+  pub omnistat2-by-bytes : (end : End) (known : Known end) (address kind : ℕ) (payload : List ℕ)
+      → ReadsBack (Omnistat.readBy end known) (onAccepted (Omnistat.addressedCounted end address) (asMessageBy end known kind payload))
+      (Omnistat.writeBytesBy end known address kind payload)
   pub patterns : Inverse X10.read X10.write X10.Bytes Any
   pub functions-by-code : (house code : ℕ) → ReadsBack X10.read (onAccepted (X10.function house) (functionOf code)) (X10.writeFunctionCode house code)
   pub steps : (own : ℕ) (m texts s : List ℕ) (room : ℕ) (d : Done) (first : ℕ) (q : Omnistat.Message Thermostat)

@@ -7,7 +7,10 @@ ghost use Rattle.answer.specs.Packed.{packed, word};
 ghost use Rattle.omnistat.specs.Text.{writeText};
 ghost use Rattle.omnistat.specs.Omnistat.{read, writeBytes};
 ghost use Rattle.omnistat.specs.Answer.{fields};
+ghost use Rattle.omnistat.specs.Host.{readAtHost, writeToHost, writeGroupToHost};
 use omnistat::frame::End;
+use omnistat::group::Chosen;
+use omnistat::habit::Known;
 
 // Reads a message at the thermostat.
 #[no_mangle]
@@ -19,10 +22,14 @@ pub extern "C" fn omnistat_read_at_thermostat(bytes: &[u8]) -> u64
 
 // Reads a message at the host.
 #[no_mangle]
-pub extern "C" fn omnistat_read_at_host(bytes: &[u8]) -> u64
-    ensures { λ n. ⌜ n ≡ packed (onAccepted (fields End.Host) (read End.Host (now (bytes .entry)))) ⌝ }
+pub extern "C" fn omnistat_read_at_host(habit: u8, polled: u8, bytes: &[u8]) -> u64
+    ensures { λ n. ⌜ n ≡ packed (readAtHost habit polled (now (bytes .entry))) ⌝ }
 {
-    omnistat::reply::read_packed(bytes)
+    let known = omnistat::habit::known_at(habit, polled);
+    match known {
+        Known::Refused(r) => answer::pack_refusal(r),
+        Known::Of { habit, polled } => omnistat::reply::read_packed(habit, polled, bytes),
+    }
 }
 
 // Writes a message to a thermostat.
@@ -42,15 +49,56 @@ pub extern "C" fn omnistat_write_to_thermostat(
 // Writes a reply to the host.
 #[no_mangle]
 pub extern "C" fn omnistat_write_to_host(
+    habit: u8,
+    polled: u8,
     number: u8,
     kind: u8,
     payload: &[u8],
     out: &mut [u8],
 ) -> u64
-    ensures { λ n. ⌜ n ≡ packed (onAccepted (λ count. word count ∷ []) (onAccepted length (inRoom (length (now (out .entry))) (writeBytes End.Host number kind (now (payload .entry)))))) ⌝ }
-    ensures { λ n. ⌜ now (out .exit) ≡ outAfter (inRoom (length (now (out .entry))) (writeBytes End.Host number kind (now (payload .entry)))) (now (out .entry)) ⌝ }
+    ensures { λ n. ⌜ n ≡ packed (onAccepted (λ count. word count ∷ []) (onAccepted length (inRoom (length (now (out .entry))) (writeToHost habit polled number kind (now (payload .entry)))))) ⌝ }
+    ensures { λ n. ⌜ now (out .exit) ≡ outAfter (inRoom (length (now (out .entry))) (writeToHost habit polled number kind (now (payload .entry)))) (now (out .entry)) ⌝ }
 {
-    answer::pack_written(omnistat::reply::write(number, kind, payload, out))
+    match omnistat::habit::known_at(habit, polled) {
+        Known::Refused(r) => answer::pack_refusal(r),
+        Known::Of { habit, polled } => answer::pack_written(omnistat::reply::write(
+            habit,
+            polled,
+            number,
+            kind,
+            payload,
+            out,
+        )),
+    }
+}
+
+// Writes the reply with a group to the host.
+#[no_mangle]
+pub extern "C" fn omnistat_write_group_to_host(
+    habit: u8,
+    polled: u8,
+    number: u8,
+    group: u8,
+    values: &[u8],
+    out: &mut [u8],
+) -> u64
+    ensures { λ n. ⌜ n ≡ packed (onAccepted (λ count. word count ∷ []) (onAccepted length (inRoom (length (now (out .entry))) (writeGroupToHost habit polled number group (now (values .entry)))))) ⌝ }
+    ensures { λ n. ⌜ now (out .exit) ≡ outAfter (inRoom (length (now (out .entry))) (writeGroupToHost habit polled number group (now (values .entry)))) (now (out .entry)) ⌝ }
+{
+    match omnistat::habit::known_at(habit, polled) {
+        Known::Refused(r) => answer::pack_refusal(r),
+        Known::Of { habit, polled } => match omnistat::group::at(group) {
+            Chosen::Refused(r) => answer::pack_refusal(r),
+            Chosen::Group(g) => answer::pack_written(omnistat::reply::write_group_by(
+                habit,
+                polled,
+                number,
+                g,
+                values,
+                out,
+            )),
+        },
+    }
 }
 
 // Writes a text to a thermostat.

@@ -3,6 +3,7 @@ pub mod Check
 pub mod Data
 pub mod Frame
 pub mod Group
+pub mod Habit
 pub mod Heard
 pub mod Message
 pub mod Omnistat

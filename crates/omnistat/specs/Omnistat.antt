@@ -1,11 +1,11 @@
--- Document 01, "Omnistat2 messages", and document 02, K1: reading and writing at both ends.
+-- Document 01, "Omnistat2 messages", and document 02, K1 and K9: reading and writing at both ends, by what is known there.
 use Prim.Native.Nat.{ℕ}
-use mathlib.Core.Bool.{not, cond}
+use mathlib.Core.Bool.{Bool, true, not, cond}
 use mathlib.Core.List.{List}
 use Rattle.answer.specs.Answer.{Outcome, accepted, refuseIf, onAccepted, andThen}
 use Rattle.omnistat.specs.declared.frame.End.{End}
 use Rattle.omnistat.specs.Frame.{framed, frame, bytesOf, directed, addressOf, firstOf}
-use Rattle.omnistat.specs.Message.{Counted, asMessage, bodyOf}
+use Rattle.omnistat.specs.Message.{Counted, Known, numbered, asMessageBy, bodyBy, isPolled}
 use Rattle.omnistat.specs.Text.{Text, carriesText, readText, writeText}
 
 -- what is read at each end: a message of counted length, or a text
@@ -28,25 +28,48 @@ abbrev pub addressedText : (end : End) → ℕ × Text → Addressed (Message en
 addressedText end t = addressed (t .0) (text (t .1))
 
 -- a counted message: the frame's checks 1, 2, 4, 5; then 6, 7, 8
-unfoldable pub readCounted : (end : End) → List ℕ → Outcome (Addressed (Message end))
-readCounted end bytes =
-    andThen (frame end bytes) (λ f. onAccepted (addressedCounted end (addressOf end (f .first))) (asMessage end (f .kind) (f .payload)))
+unfoldable pub readCountedBy : (end : End) → Known end → List ℕ → Outcome (Addressed (Message end))
+readCountedBy end known bytes =
+    andThen (frame end bytes) (λ f. onAccepted (addressedCounted end (addressOf end (f .first))) (asMessageBy end known (f .kind) (f .payload)))
 
 -- the type and the third byte tell a text from a counted message
-unfoldable pub read : (end : End) → List ℕ → Outcome (Addressed (Message end))
-read end bytes =
+unfoldable pub readBy : (end : End) → Known end → List ℕ → Outcome (Addressed (Message end))
+readBy end known bytes =
     cond (carriesText end bytes)
     (onAccepted (addressedText end) (readText end bytes))
-    (readCounted end bytes)
+    (readCountedBy end known bytes)
 
--- a type number and data bytes to write: 6, 7, 8; 8 too where its first byte is none of that end's, so that a reply carries 01 to 7F
-unfoldable pub writeBytes : (end : End) → ℕ → ℕ → List ℕ → Outcome (List ℕ)
-writeBytes end address kind payload =
-    andThen (asMessage end kind payload)
-    (λ m. refuseIf (not (directed end (firstOf end address))) 8
-    (accepted (bytesOf (framed (firstOf end address) kind payload))))
+-- the bytes of a type and data bytes to an address: 8 where its first byte is none of that end's, so that a reply carries 01 to 7F
+abbrev pub bytesTo : (end : End) → ℕ → ℕ → List ℕ → Outcome (List ℕ)
+bytesTo end address kind payload =
+    refuseIf (not (directed end (firstOf end address))) 8
+    (accepted (bytesOf (framed (firstOf end address) kind payload)))
 
--- a typed message to write: its type and data bytes, or its text
+-- a type and data bytes to write: 6, 7, 8; then 8 where they may not be sent, as the reply of a group that was not polled
+unfoldable pub sent : (end : End) → Known end → (allowed : Bool) → ℕ → ℕ → List ℕ → Outcome (List ℕ)
+sent end known allowed address kind payload =
+    andThen (asMessageBy end known kind payload)
+    (λ m. refuseIf (not allowed) 8
+    (bytesTo end address kind payload))
+
+-- by a type number and data bytes: as printed these name no group but the polled one, by number any may be sent
+abbrev pub writeBytesBy : (end : End) → Known end → ℕ → ℕ → List ℕ → Outcome (List ℕ)
+writeBytesBy end known address kind payload = sent end known true address kind payload
+
+-- a typed message: its type and data bytes, or its text
+abbrev pub writeBy : (end : End) → Known end → ℕ → Message end → Outcome (List ℕ)
+writeBy end known address (counted c) = sent end known (isPolled end known c) address (bodyBy end known c .kind) (bodyBy end known c .payload)
+writeBy end known address (text t) = writeText end address t
+
+-- with the numbered habit, as document 01 has it
+abbrev pub readCounted : (end : End) → List ℕ → Outcome (Addressed (Message end))
+readCounted end = readCountedBy end (numbered end)
+
+abbrev pub read : (end : End) → List ℕ → Outcome (Addressed (Message end))
+read end = readBy end (numbered end)
+
+abbrev pub writeBytes : (end : End) → ℕ → ℕ → List ℕ → Outcome (List ℕ)
+writeBytes end = writeBytesBy end (numbered end)
+
 abbrev pub write : (end : End) → ℕ → Message end → Outcome (List ℕ)
-write end address (counted c) = writeBytes end address (bodyOf end c .kind) (bodyOf end c .payload)
-write end address (text t) = writeText end address t
+write end = writeBy end (numbered end)

@@ -1,7 +1,9 @@
-// The three groups of registers, the types of their messages and the lengths of their replies.
+// The three groups of registers, the types of their polls and the lengths of their replies; and a group by its number.
 ghost use mathlib.Core.Path.{_≡_};
-ghost use Rattle.omnistat.specs.Group.{pollType, replyType, replyLength, groupOf};
+ghost use Rattle.omnistat.specs.Group.{pollType, replyLength, groupOf, groupNumber, groupAt, sameGroup};
+ghost use Rattle.omnistat.specs.Answer.{chosenOf};
 ghost use Rattle.omnistat.specs.Parts.{namedOf};
+use answer::Refusal;
 
 pub enum Group {
     First,
@@ -23,17 +25,6 @@ pub fn poll_type(g: Group) -> u8
         Group::First => 2,
         Group::Second => 3,
         Group::Third => 4,
-    }
-}
-
-// The type of the reply with a group.
-pub fn reply_type(g: Group) -> u8
-    ensures { λ r. ⌜ r ≡ replyType g ⌝ }
-{
-    match g {
-        Group::First => 3,
-        Group::Second => 4,
-        Group::Third => 5,
     }
 }
 
@@ -64,18 +55,38 @@ pub(crate) fn polled(kind: u8) -> Named
     Named::Unknown
 }
 
-// The group whose reply has this type.
-pub(crate) fn replied(kind: u8) -> Named
-    ensures { λ r. ⌜ namedOf r ≡ groupOf replyType kind ⌝ }
+// A group by its number, or the refusal of another number.
+pub enum Chosen {
+    Refused(Refusal),
+    Group(Group),
+}
+
+// The group with this number, 1 to 3.
+pub fn at(n: u8) -> Chosen
+    ensures { λ r. ⌜ chosenOf r ≡ groupAt n ⌝ }
 {
-    if kind == reply_type(Group::First) {
-        return Named::Of(Group::First);
+    match n {
+        1 => Chosen::Group(Group::First),
+        2 => Chosen::Group(Group::Second),
+        3 => Chosen::Group(Group::Third),
+        _ => Chosen::Refused(Refusal::Field),
     }
-    if kind == reply_type(Group::Second) {
-        return Named::Of(Group::Second);
+}
+
+// The number of a group.
+pub(crate) fn number(g: Group) -> u8
+    ensures { λ r. ⌜ r ≡ groupNumber g ⌝ }
+{
+    match g {
+        Group::First => 1,
+        Group::Second => 2,
+        Group::Third => 3,
     }
-    if kind == reply_type(Group::Third) {
-        return Named::Of(Group::Third);
-    }
-    Named::Unknown
+}
+
+// Whether two groups are the same.
+pub(crate) fn is_same(g: Group, h: Group) -> bool
+    ensures { λ r. ⌜ r ≡ sameGroup g h ⌝ }
+{
+    number(g) == number(h)
 }

@@ -44,7 +44,7 @@ fn named(line: &[u8], names: &[u8]) -> u64 {
 fn call_of(line: &[u8]) -> u64 {
     named(
         line,
-        b"read places\nread frame\nread message\nat thermostat\nat host\nstep\ntemperatures\ncost\nmeter\nlisting\nwrite unit\nwrite function\nwrite extended\nwrite frame\nwrite message\nto thermostat\nto host\ntext to thermostat\ntext to host\ncut\ndoor\nmend\n",
+        b"read places\nread frame\nread message\nat thermostat\nat host\nstep\ntemperatures\ncost\nmeter\nlisting\nwrite unit\nwrite function\nwrite extended\nwrite frame\nwrite message\nto thermostat\nto host\ngroup to host\ntext to thermostat\ntext to host\ncut\ndoor\nmend\n",
     )
 }
 
@@ -72,10 +72,10 @@ fn answer_call(call: u64, bytes: &[u8]) {
         8 => model::meter(bytes),
         9 => captures::list(bytes),
         10..=12 => patterns::write(call, bytes),
-        13..=18 => writers::write(call, bytes),
-        19 => captures::cut(bytes),
-        20 => door::step(bytes),
-        21 => damaged::mend(bytes),
+        13..=19 => writers::write(call, bytes),
+        20 => captures::cut(bytes),
+        21 => door::step(bytes),
+        22 => damaged::mend(bytes),
         _ => {}
     }
 }

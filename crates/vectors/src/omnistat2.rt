@@ -1,4 +1,7 @@
 // Omnistat2 messages, read at both ends.
+use crate::input::byte;
+use crate::input::rest;
+use crate::input::wide;
 use crate::output::field;
 use crate::output::show;
 
@@ -10,6 +13,8 @@ const LAST_TEXT: u64 = 181;
 const SET: u64 = 1;
 
 const DATA: u64 = 2;
+
+const PRINTED: u8 = 1;
 
 // Whether an answer is a text: a set or data from a text register.
 fn is_text(answer: u64, kind: u64) -> bool {
@@ -41,12 +46,35 @@ pub(crate) fn at_thermostat(bytes: &[u8]) {
     );
 }
 
-pub(crate) fn at_host(bytes: &[u8]) {
+fn show_reply(form: &[u8], answer: u64, bytes: &[u8]) {
     show_message(
         DATA,
         b" text %3, half-byte %5, characters$4, from %2",
-        b"{1 acknowledge| negative| data registers from %3, count %4, values$4| group 1, values!4| group 2, values!4| group 3, values!4}, from %2",
-        host::omnistat2::omnistat_read_at_host(bytes),
+        form,
+        answer,
         bytes,
     );
+}
+
+// With the printed habit type 3 is the polled group, which is put to byte 6 of the answer, above the fields.
+fn reply(habit: u8, polled: u8, bytes: &[u8]) {
+    let r = host::omnistat2::omnistat_read_at_host(habit, polled, bytes);
+    if habit == PRINTED {
+        show_reply(
+            b"{1 acknowledge| negative| data registers from %3, count %4, values$4| group %6 as type %1, values!4}, from %2",
+            r | wide(polled) << 48,
+            bytes,
+        );
+    } else {
+        show_reply(
+            b"{1 acknowledge| negative| data registers from %3, count %4, values$4| group 1, values!4| group 2, values!4| group 3, values!4}, from %2",
+            r,
+            bytes,
+        );
+    }
+}
+
+// A habit, the polled group, then the message.
+pub(crate) fn at_host(bytes: &[u8]) {
+    reply(byte(bytes, 0), byte(bytes, 1), rest(bytes, 2));
 }

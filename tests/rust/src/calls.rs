@@ -55,7 +55,7 @@ mod gateway {
             len: usize,
         ) -> u64;
         pub fn omnistat_read_at_thermostat(bytes: *const u8, len: usize) -> u64;
-        pub fn omnistat_read_at_host(bytes: *const u8, len: usize) -> u64;
+        pub fn omnistat_read_at_host(habit: u64, polled: u64, bytes: *const u8, len: usize) -> u64;
         pub fn omnistat_write_to_thermostat(
             address: u64,
             kind: u64,
@@ -65,9 +65,21 @@ mod gateway {
             room: usize,
         ) -> u64;
         pub fn omnistat_write_to_host(
+            habit: u64,
+            polled: u64,
             number: u64,
             kind: u64,
             data: *const u8,
+            len: usize,
+            out: *mut u8,
+            room: usize,
+        ) -> u64;
+        pub fn omnistat_write_group_to_host(
+            habit: u64,
+            polled: u64,
+            number: u64,
+            group: u64,
+            values: *const u8,
             len: usize,
             out: *mut u8,
             room: usize,
@@ -226,8 +238,8 @@ pub fn omnistat_read_at_thermostat(b: Lent) -> u64 {
     unsafe { gateway::omnistat_read_at_thermostat(b.pointer, b.len) }
 }
 
-pub fn omnistat_read_at_host(b: Lent) -> u64 {
-    unsafe { gateway::omnistat_read_at_host(b.pointer, b.len) }
+pub fn omnistat_read_at_host([habit, polled]: [u8; 2], b: Lent) -> u64 {
+    unsafe { gateway::omnistat_read_at_host(byte(habit), byte(polled), b.pointer, b.len) }
 }
 
 pub fn omnistat_write_to_thermostat(address: u8, kind: u8, data: Lent, out: Lent) -> u64 {
@@ -244,10 +256,41 @@ pub fn omnistat_write_to_thermostat(address: u8, kind: u8, data: Lent, out: Lent
     }
 }
 
-pub fn omnistat_write_to_host(number: u8, kind: u8, data: Lent, out: Lent) -> u64 {
-    let (bytes, len) = (data.pointer, data.len);
+pub fn omnistat_write_to_host(
+    [habit, polled, number, kind]: [u8; 4],
+    data: Lent,
+    out: Lent,
+) -> u64 {
     unsafe {
-        gateway::omnistat_write_to_host(byte(number), byte(kind), bytes, len, out.pointer, out.len)
+        gateway::omnistat_write_to_host(
+            byte(habit),
+            byte(polled),
+            byte(number),
+            byte(kind),
+            data.pointer,
+            data.len,
+            out.pointer,
+            out.len,
+        )
+    }
+}
+
+pub fn omnistat_write_group_to_host(
+    [habit, polled, number, group]: [u8; 4],
+    values: Lent,
+    out: Lent,
+) -> u64 {
+    unsafe {
+        gateway::omnistat_write_group_to_host(
+            byte(habit),
+            byte(polled),
+            byte(number),
+            byte(group),
+            values.pointer,
+            values.len,
+            out.pointer,
+            out.len,
+        )
     }
 }
 

@@ -22,6 +22,7 @@ pub enum Call {
     ReadAtHost,
     WriteToThermostat,
     WriteToHost,
+    WriteGroupToHost,
     WriteTextToThermostat,
     WriteTextToHost,
     Step,
@@ -44,7 +45,7 @@ const MESSAGE_READER: &[u8] = &[1, 2, 3, 4, 5, 6, 7, 8];
 const OMNISTAT_READER: &[u8] = &[1, 2, 4, 5, 6, 7, 8];
 
 /// The calls in the order of `Call`, each with the refusals that documents 01 and 02 name for it.
-pub const CALLS: [(&str, &[u8]); 31] = [
+pub const CALLS: [(&str, &[u8]); 32] = [
     ("omnilink_frame_read", &[1, 2, 3, 4, 5]),
     ("omnilink_frame_write", &[3, 9]),
     ("frame_mend", &[1, 2, 3, 4, 5, 8, 9]),
@@ -60,6 +61,7 @@ pub const CALLS: [(&str, &[u8]); 31] = [
     ("omnistat_read_at_host", OMNISTAT_READER),
     ("omnistat_write_to_thermostat", &[6, 7, 8, 9]),
     ("omnistat_write_to_host", &[6, 7, 8, 9]),
+    ("omnistat_write_group_to_host", &[7, 8, 9]),
     ("omnistat_write_text_to_thermostat", &[8, 9]),
     ("omnistat_write_text_to_host", &[8, 9]),
     ("thermostat_step", &[1, 2, 4, 5, 6, 7, 8, 9]),
@@ -182,12 +184,12 @@ impl Compare {
         self.reads_item(call, bytes, 0, right, run);
     }
 
-    /// A call that reads the item `i` of a buffer.
+    /// A call that reads the item `i` of a buffer, or reads it with what the host names.
     fn reads_item(
         &mut self,
         call: Call,
         bytes: &[u8],
-        i: usize,
+        i: impl std::fmt::Debug,
         right: u64,
         run: impl FnOnce(Lent) -> u64,
     ) {
@@ -198,7 +200,7 @@ impl Compare {
         self.judge(call, right, got == right && kept, || {
             let note = if kept { "" } else { ", input changed" };
             format!(
-                "input {}, item {i}, expected {right:#X}, got {got:#X}{note}",
+                "input {}, item {i:?}, expected {right:#X}, got {got:#X}{note}",
                 hex(bytes)
             )
         });
@@ -417,8 +419,9 @@ impl Compare {
         );
     }
 
-    pub fn read_at_host(&mut self, bytes: &[u8]) {
-        let right = paper::read_at_host(bytes).map(|read| {
+    /// With a habit and a polled group.
+    pub fn read_at_host(&mut self, names: [u8; 2], bytes: &[u8]) {
+        let right = paper::read_at_host(names, bytes).map(|read| {
             let [start, count, half] = match (read.kind, read.body) {
                 (2, Body::Data(data)) => [data[0], data.len() as u8 - 1, 0],
                 (_, Body::Data(data)) => [0, data.len() as u8, 0],
@@ -427,7 +430,9 @@ impl Compare {
             [read.kind, read.first, start, count, half]
         });
         let right = packed(right);
-        self.reads(Call::ReadAtHost, bytes, right, calls::omnistat_read_at_host);
+        self.reads_item(Call::ReadAtHost, bytes, names, right, |b| {
+            calls::omnistat_read_at_host(names, b)
+        });
     }
 
     pub fn write_to_thermostat(&mut self, address: u8, kind: u8, data: &[u8], room: usize) {
@@ -438,11 +443,21 @@ impl Compare {
         });
     }
 
-    pub fn write_to_host(&mut self, number: u8, kind: u8, data: &[u8], room: usize) {
-        let right = paper::write_to_host(number, kind, data, room);
-        let arguments = (&[number, kind][..], data);
+    /// Habit, polled group, number and type.
+    pub fn write_to_host(&mut self, numbers: [u8; 4], data: &[u8], room: usize) {
+        let right = paper::write_to_host(numbers, data, room);
+        let arguments = (&numbers[..], data);
         self.writes(Call::WriteToHost, arguments, room, right, |d, out| {
-            calls::omnistat_write_to_host(number, kind, d, out)
+            calls::omnistat_write_to_host(numbers, d, out)
+        });
+    }
+
+    /// Habit, polled group, number and group.
+    pub fn write_group_to_host(&mut self, numbers: [u8; 4], values: &[u8], room: usize) {
+        let right = paper::write_group_to_host(numbers, values, room);
+        let arguments = (&numbers[..], values);
+        self.writes(Call::WriteGroupToHost, arguments, room, right, |v, out| {
+            calls::omnistat_write_group_to_host(numbers, v, out)
         });
     }
 

@@ -7,6 +7,8 @@ use crate::random::Random;
 pub const OMNILINK_TYPES: [u8; 14] = [
     0x05, 0x06, 0x0D, 0x0E, 0x0F, 0x11, 0x13, 0x15, 0x16, 0x20, 0x21, 0x22, 0x23, 0x25,
 ];
+/// Each habit with each polled group.
+pub const NAMES: [[u8; 2]; 6] = [[0, 1], [0, 2], [0, 3], [1, 1], [1, 2], [1, 3]];
 const COMMANDS: [u8; 8] = [0, 1, 2, 3, 9, 10, 11, 12];
 const LISTED: [(u8, u8); 5] = [(15, 15), (18, 68), (70, 122), (131, 145), (158, 171)];
 
@@ -177,13 +179,33 @@ fn to_thermostat(random: &mut Random) -> (u8, Vec<u8>) {
     (kind, data)
 }
 
-/// A type and data bytes of a reply, mostly right.
+/// A habit and a polled group, with few exceptions.
+fn names(random: &mut Random) -> [u8; 2] {
+    let mut names = random.pick(&NAMES);
+    if random.once_in(16) {
+        let any = random.byte();
+        names[random.below(2)] = random.pick(&[0, 1, 2, 3, 4, 255, any]);
+    }
+    names
+}
+
+/// How many values the reply of a group has, or another count.
+fn group_count(random: &mut Random) -> usize {
+    let any = random.below(19);
+    random.pick(&[6, 6, 6, 10, 10, any])
+}
+
+/// A type and data bytes of a reply, mostly right with some habit and polled group.
 fn to_host(random: &mut Random) -> (u8, Vec<u8>) {
-    let (kind, mut data) = match random.below(8) {
+    let (kind, mut data) = match random.below(9) {
         0 => (random.byte_from(0, 1), Vec::new()),
         1..=3 => (2, run_of_values(random)),
         4 => (random.byte_from(3, 4), random.bytes(6)),
         5 => (5, random.bytes(10)),
+        6 => {
+            let count = group_count(random);
+            (3, random.bytes(count))
+        }
         _ => (random.byte_from(0, 15), run_of_values(random)),
     };
     if random.once_in(6) {
@@ -479,10 +501,11 @@ fn omnistat(compare: &mut Compare, random: &mut Random) {
         let first = address(random, own);
         let bytes = request_bytes(random, first);
         compare.read_at_thermostat(&bytes);
-        compare.read_at_host(&bytes);
+        compare.read_at_host(names(random), &bytes);
         let first = address(random, own + 0x80);
         let bytes = reply_bytes(random, first);
-        compare.read_at_host(&bytes);
+        compare.read_at_host(names(random), &bytes);
+        compare.read_at_host(names(random), &bytes);
         compare.read_at_thermostat(&bytes);
         let (kind, data) = to_thermostat(random);
         let first = address(random, own);
@@ -493,7 +516,15 @@ fn omnistat(compare: &mut Compare, random: &mut Random) {
         } else {
             own
         };
-        compare.write_to_host(number, kind, &data, room(random, data.len() + 3));
+        let [habit, polled] = names(random);
+        let numbers = [habit, polled, number, kind];
+        compare.write_to_host(numbers, &data, room(random, data.len() + 3));
+        let (one, any) = (random.byte_from(1, 3), random.byte());
+        let group = random.pick(&[polled, polled, one, one, one, any]);
+        let count = group_count(random);
+        let values = random.bytes(count);
+        let numbers = [habit, polled, number, group];
+        compare.write_group_to_host(numbers, &values, room(random, count + 3));
     }
 }
 

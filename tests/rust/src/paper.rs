@@ -360,27 +360,57 @@ pub enum Body<'a> {
 
 // Omnistat2 messages: an end, by the first bytes that it takes, the type that sets or carries registers, and 6, 7, 8 of a
 // type and its data bytes.
-struct End {
+struct End<Check> {
     direction: fn(u8) -> bool,
     registers: u8,
-    check: fn(u8, &[u8]) -> Answer<()>,
+    check: Check,
 }
 
-const THERMOSTAT: End = End {
-    direction: to_thermostat,
-    registers: 1,
-    check: from_host,
-};
+fn at_thermostat() -> End<impl Fn(u8, &[u8]) -> Answer<()>> {
+    End {
+        direction: to_thermostat,
+        registers: 1,
+        check: from_host,
+    }
+}
 
-const HOST: End = End {
-    direction: to_host,
-    registers: 2,
-    check: reply,
-};
+fn at_host(habit: Habit) -> End<impl Fn(u8, &[u8]) -> Answer<()>> {
+    End {
+        direction: to_host,
+        registers: 2,
+        check: move |kind, data: &[u8]| reply(habit, kind, data),
+    }
+}
+
+// K9: with the printed habit type 3 carries the group last polled; with the other one that group decides nothing.
+#[derive(Clone, Copy)]
+enum Habit {
+    Numbered,
+    Printed(u8),
+}
+
+// K9: the habit and the group last polled, as the host names them. 8 before all else.
+fn named([habit, polled]: [u8; 2]) -> Answer<Habit> {
+    require(is_group(polled), FIELD)?;
+    match habit {
+        0 => Ok(Habit::Numbered),
+        1 => Ok(Habit::Printed(polled)),
+        _ => Err(FIELD),
+    }
+}
+
+fn is_group(group: u8) -> bool {
+    (1..=3).contains(&group)
+}
+
+// Omnistat2 messages: N of a reply with a group.
+fn group_length(group: u8) -> usize {
+    [6, 6, 10][usize::from(group) - 1]
+}
 
 // Omnistat2 messages: the order of checks. A set or data message whose third byte is a text register is a text, whatever its
 // half-byte is.
-fn omnistat_read(end: End, bytes: &[u8]) -> Answer<Omnistat<'_>> {
+fn omnistat_read(end: End<impl Fn(u8, &[u8]) -> Answer<()>>, bytes: &[u8]) -> Answer<Omnistat<'_>> {
     require(!bytes.is_empty(), SHORT)?;
     require((end.direction)(bytes[0]), START)?;
     require(bytes.len() > 1, SHORT)?;
@@ -465,28 +495,33 @@ fn from_host(kind: u8, data: &[u8]) -> Answer<()> {
     }
 }
 
-// Omnistat2 messages: 6, 7, 8 of a reply.
-fn reply(kind: u8, data: &[u8]) -> Answer<()> {
-    match kind {
-        0 | 1 => require(data.is_empty(), TYPE_LENGTH),
-        2 => {
+// Omnistat2 messages: 6, 7, 8 of a reply; groups by K9.
+fn reply(habit: Habit, kind: u8, data: &[u8]) -> Answer<()> {
+    let group = match (kind, habit) {
+        (0 | 1, _) => return require(data.is_empty(), TYPE_LENGTH),
+        (2, _) => {
             require((2..=15).contains(&data.len()), TYPE_LENGTH)?;
-            run(data[0], data.len() - 1)
+            return run(data[0], data.len() - 1);
         }
-        3 | 4 => require(data.len() == 6, TYPE_LENGTH),
-        5 => require(data.len() == 10, TYPE_LENGTH),
-        _ => Err(UNKNOWN),
-    }
+        (3, Habit::Printed(polled)) => polled,
+        (3..=5, Habit::Numbered) => kind - 2,
+        _ => return Err(UNKNOWN),
+    };
+    require(data.len() == group_length(group), TYPE_LENGTH)
 }
 
 // Omnistat2 messages: reading at the thermostat.
 pub fn read_at_thermostat(bytes: &[u8]) -> Answer<Omnistat<'_>> {
-    omnistat_read(THERMOSTAT, bytes)
+    omnistat_read(at_thermostat(), bytes)
 }
 
 // Omnistat2 messages: reading at the host. Gives the number of the thermostat in place of the first byte.
-pub fn read_at_host(bytes: &[u8]) -> Answer<Omnistat<'_>> {
-    let mut message = omnistat_read(HOST, bytes)?;
+pub fn read_at_host(names: [u8; 2], bytes: &[u8]) -> Answer<Omnistat<'_>> {
+    read_reply(named(names)?, bytes)
+}
+
+fn read_reply(habit: Habit, bytes: &[u8]) -> Answer<Omnistat<'_>> {
+    let mut message = omnistat_read(at_host(habit), bytes)?;
     message.first -= 0x80;
     Ok(message)
 }
@@ -516,10 +551,38 @@ pub fn write_to_thermostat(address: u8, kind: u8, data: &[u8], room: usize) -> A
 }
 
 // Omnistat2 messages: writing to the host. A wrong number is 8.
-pub fn write_to_host(number: u8, kind: u8, data: &[u8], room: usize) -> Answer<Vec<u8>> {
-    reply(kind, data)?;
+pub fn write_to_host(
+    [habit, polled, number, kind]: [u8; 4],
+    data: &[u8],
+    room: usize,
+) -> Answer<Vec<u8>> {
+    let habit = named([habit, polled])?;
+    reply(habit, kind, data)?;
     require((0x01..=0x7F).contains(&number), FIELD)?;
     fit(omnistat(number + 0x80, kind, data), room)
+}
+
+// K9: writing the reply with a group. With the printed habit 7 for the polled group, then 8 for a group not polled.
+pub fn write_group_to_host(
+    [habit, polled, number, group]: [u8; 4],
+    values: &[u8],
+    room: usize,
+) -> Answer<Vec<u8>> {
+    let habit = named([habit, polled])?;
+    require(is_group(group), FIELD)?;
+    let kind = match habit {
+        Habit::Numbered => {
+            require(values.len() == group_length(group), TYPE_LENGTH)?;
+            [3, 4, 5][usize::from(group) - 1]
+        }
+        Habit::Printed(polled) => {
+            require(values.len() == group_length(polled), TYPE_LENGTH)?;
+            require(group == polled, FIELD)?;
+            3
+        }
+    };
+    require((0x01..=0x7F).contains(&number), FIELD)?;
+    fit(omnistat(number + 0x80, kind, values), room)
 }
 
 fn writable_text(half: u8, register: u8, text: &[u8]) -> bool {
@@ -687,8 +750,9 @@ pub fn cost(word: u16) -> u64 {
 }
 
 // K5: the total after a reply of whichever thermostat. Data of two registers from 170 on has the word; another message or run is 8.
+// K9: always with the numbered habit.
 pub fn meter(total: u64, bytes: &[u8]) -> Answer<u64> {
-    let reply = read_at_host(bytes)?;
+    let reply = read_reply(Habit::Numbered, bytes)?;
     let Body::Data(data) = reply.body else {
         return Err(FIELD);
     };

@@ -4,7 +4,7 @@ use crate::calls;
 use crate::compare::{Call, Compare};
 use crate::door;
 use crate::guard::{Long, Region};
-use crate::inputs::{self, OMNILINK_TYPES, SPECIAL};
+use crate::inputs::{self, NAMES, OMNILINK_TYPES, SPECIAL};
 use crate::paper::{self, Body, Omnistat, State};
 use crate::pieces;
 use crate::random::Random;
@@ -21,6 +21,9 @@ pub fn all(compare: &mut Compare, random: &mut Random) {
     commands(compare);
     door::all(compare, random);
     omnistat(compare, random);
+    habits(compare, random);
+    damaged_replies(compare, random);
+    group_writer(compare, random);
     texts(compare, random);
     text_writers(compare, random);
     registers(compare, random);
@@ -102,6 +105,7 @@ fn examples(compare: &mut Compare) {
         paper::listing(&[], 6) == Ok(b"end 0\n".to_vec()),
     );
     text_examples(compare);
+    habit_examples(compare);
 }
 
 /// K8's example and its ends, and condition 3's pair: three of the four flips between them.
@@ -182,9 +186,11 @@ fn text_examples(compare: &mut Compare) {
         read(&whole(60)) == Ok((0, 181, vec![b'~'; 60])),
     );
     compare.fact("61 characters", read(&whole(61)) == Err(8));
-    let host = paper::read_at_host(&[0xAA, 0x02, 0xAC]);
-    compare.fact("a text of three bytes", host == Err(1));
-    compare.read_at_host(&[0xAA, 0x02, 0xAC]);
+    for names in NAMES {
+        let host = paper::read_at_host(names, &[0xAA, 0x02, 0xAC]);
+        compare.fact("a text of three bytes", host == Err(1));
+        compare.read_at_host(names, &[0xAA, 0x02, 0xAC]);
+    }
     let (map, texts) = (vec![7; 256], vec![0; paper::STORE]);
     let mut state = State { map, texts };
     let steps: [(&[u8], &[u8]); 5] = [
@@ -209,6 +215,53 @@ fn text_examples(compare: &mut Compare) {
         "the other texts",
         state.texts.iter().filter(|&&b| b != 0).count() == 3,
     );
+}
+
+/// Habit, polled group, number and group, the values, and the reply that is written.
+type GroupExample<'a> = ([u8; 4], &'a [u8], paper::Answer<Vec<u8>>);
+
+/// K9's two habits: what is written of a group, and how types 3, 4 and 5 are read.
+fn habit_examples(compare: &mut Compare) {
+    let (six, ten) = (vec![7; 6], vec![7; 10]);
+    let reply = |kind, values: &[u8]| Ok(paper::omnistat(0x81, kind, values));
+    let writes: [GroupExample; 12] = [
+        ([0, 3, 1, 1], &six, reply(3, &six)),
+        ([0, 1, 1, 2], &six, reply(4, &six)),
+        ([0, 2, 1, 3], &ten, reply(5, &ten)),
+        ([0, 3, 1, 3], &six, Err(7)),
+        ([1, 1, 1, 1], &six, reply(3, &six)),
+        ([1, 2, 1, 2], &six, reply(3, &six)),
+        ([1, 3, 1, 3], &ten, reply(3, &ten)),
+        ([1, 3, 1, 1], &six, Err(7)),
+        ([1, 1, 1, 2], &six, Err(8)),
+        ([1, 0, 1, 1], &[], Err(8)),
+        ([0, 4, 1, 1], &[], Err(8)),
+        ([0, 1, 1, 4], &[], Err(8)),
+    ];
+    for (numbers, values, right) in writes {
+        let written = paper::write_group_to_host(numbers, values, 13);
+        compare.fact("a reply with a group", written == right);
+        compare.write_group_to_host(numbers, values, 13);
+    }
+    let reads: [([u8; 2], u8, &[u8], u8); 11] = [
+        ([0, 3], 3, &six, 0),
+        ([0, 1], 4, &six, 0),
+        ([0, 1], 5, &ten, 0),
+        ([0, 3], 3, &ten, 7),
+        ([1, 1], 3, &six, 0),
+        ([1, 2], 3, &six, 0),
+        ([1, 3], 3, &ten, 0),
+        ([1, 3], 3, &six, 7),
+        ([1, 2], 4, &six, 6),
+        ([1, 3], 5, &ten, 6),
+        ([2, 1], 3, &six, 8),
+    ];
+    for (names, kind, values, number) in reads {
+        let bytes = paper::omnistat(0x81, kind, values);
+        let read = paper::read_at_host(names, &bytes).map_or_else(|number| number, |_| 0);
+        compare.fact("a group read", read == number);
+        compare.read_at_host(names, &bytes);
+    }
 }
 
 fn temperatures(compare: &mut Compare, random: &mut Random) {
@@ -488,12 +541,24 @@ fn commands(compare: &mut Compare) {
     }
 }
 
+/// Bytes read at both ends, at the host with each habit and polled group.
+fn read_both(compare: &mut Compare, bytes: &[u8]) {
+    compare.read_at_thermostat(bytes);
+    for names in NAMES {
+        compare.read_at_host(names, bytes);
+    }
+}
+
+/// A type and data bytes written to the host with each habit and polled group.
+fn write_to_host(compare: &mut Compare, number: u8, kind: u8, data: &[u8], room: usize) {
+    for [habit, polled] in NAMES {
+        compare.write_to_host([habit, polled, number, kind], data, room);
+    }
+}
+
 /// Each first and second byte, and each run of registers, read at both ends and written from both.
 fn omnistat(compare: &mut Compare, random: &mut Random) {
-    let mut both = |bytes: &[u8]| {
-        compare.read_at_thermostat(bytes);
-        compare.read_at_host(bytes);
-    };
+    let mut both = |bytes: &[u8]| read_both(compare, bytes);
     for first in 0..=255 {
         for second in 0..=255 {
             let mut data = random.bytes(usize::from(second / 16));
@@ -527,7 +592,8 @@ fn omnistat(compare: &mut Compare, random: &mut Random) {
         for count in 0..=16 {
             let data = vec![start; count];
             compare.write_to_thermostat(0x01, 1, &data, random.pick(&[count + 3, count + 2]));
-            compare.write_to_host(0x01, 2, &data, random.pick(&[count + 3, count + 2]));
+            let room = random.pick(&[count + 3, count + 2]);
+            write_to_host(compare, 0x01, 2, &data, room);
         }
         for count in 0..=255 {
             compare.write_to_thermostat(0xFA, 0, &[start, count], random.pick(&[5, 4]));
@@ -542,8 +608,96 @@ fn omnistat(compare: &mut Compare, random: &mut Random) {
                 }
                 let room = random.pick(&[count + 3, count + 2, 30]);
                 compare.write_to_thermostat(address, kind, &data, room);
-                compare.write_to_host(address, kind, &data, room);
+                write_to_host(compare, address, kind, &data, room);
             }
+        }
+    }
+}
+
+/// Types and counts of data bytes: the replies that the habits tell apart, and others.
+const REPLIES: [(u8, usize); 10] = [
+    (3, 6),
+    (3, 10),
+    (4, 6),
+    (5, 10),
+    (3, 7),
+    (4, 10),
+    (5, 6),
+    (0, 0),
+    (2, 3),
+    (6, 6),
+];
+
+/// Each number as habit with each number as polled group: on no bytes, on a reply whole, cut and with a wrong sum, and to the writers.
+fn habits(compare: &mut Compare, random: &mut Random) {
+    for habit in 0..=255 {
+        for polled in 0..=255 {
+            let names = [habit, polled];
+            let (kind, count) = random.pick(&REPLIES);
+            let data = random.bytes(count);
+            let mut bytes = paper::omnistat(random.pick(&[0x81, 0xFA, 0x01]), kind, &data);
+            compare.read_at_host(names, &[]);
+            compare.read_at_host(names, &bytes);
+            compare.read_at_host(names, &bytes[..random.below(bytes.len())]);
+            bytes[count + 2] ^= 1;
+            compare.read_at_host(names, &bytes);
+            let number = random.pick(&[0, 1, 127, 128]);
+            let room = random.pick(&[0, count + 2, count + 3, 20]);
+            compare.write_to_host([habit, polled, number, kind], &data, room);
+            let group = random.byte_from(0, 4);
+            compare.write_group_to_host([habit, polled, number, group], &data, room);
+        }
+    }
+}
+
+/// Each byte of each reply damaged, with the sum as it was and made right, and each cut.
+fn damaged_replies(compare: &mut Compare, random: &mut Random) {
+    for (kind, count) in REPLIES {
+        let right = paper::omnistat(0xFF, kind, &random.bytes(count));
+        for at in 0..right.len() {
+            read_both(compare, &right[..at]);
+            for damaged in 0..=255 {
+                let mut bytes = right.clone();
+                bytes[at] = damaged;
+                read_both(compare, &bytes);
+                bytes[count + 2] = paper::sum(&bytes[..count + 2]);
+                read_both(compare, &bytes);
+            }
+        }
+    }
+}
+
+/// Each group with each count of values, each number and each room, for each habit and polled group, also for those that are none.
+fn group_writer(compare: &mut Compare, random: &mut Random) {
+    for habit in [0, 1, 2, 255] {
+        for polled in [0, 1, 2, 3, 4, 255] {
+            for group in (0..=5).chain([127, 128, 254, 255]) {
+                for count in 0..=18 {
+                    let values = random.bytes(count);
+                    for number in [0, 1, 127, 128, 255] {
+                        let numbers = [habit, polled, number, group];
+                        for room in [0, count + 2, count + 3, count + 4] {
+                            compare.write_group_to_host(numbers, &values, room);
+                        }
+                    }
+                }
+            }
+        }
+    }
+    for [habit, polled] in NAMES {
+        for (group, count) in [(1, 6), (2, 6), (3, 10)] {
+            let values = random.bytes(count);
+            for any in 0..=255 {
+                compare.write_group_to_host([habit, polled, any, group], &values, count + 3);
+                compare.write_group_to_host([habit, polled, 9, any], &values, count + 3);
+            }
+            for room in 0..=20 {
+                compare.write_group_to_host([habit, polled, 9, group], &values, room);
+            }
+        }
+        for count in [256, 262, 266, 518, 4096, 16000] {
+            let values = random.bytes(count);
+            compare.write_group_to_host([habit, polled, 9, polled], &values, 13);
         }
     }
 }
@@ -664,23 +818,17 @@ fn stores(compare: &mut Compare, random: &mut Random) {
     }
 }
 
-/// Bytes as a text, read at both ends.
-fn read_text(compare: &mut Compare, bytes: &[u8]) {
-    compare.read_at_thermostat(bytes);
-    compare.read_at_host(bytes);
-}
-
 /// A text whole, cut, longer, and with a wrong sum.
 fn read_around(compare: &mut Compare, bytes: &mut Vec<u8>) {
-    read_text(compare, bytes);
-    read_text(compare, &bytes[..bytes.len() - 1]);
-    read_text(compare, &bytes[..bytes.len() - 2]);
+    read_both(compare, bytes);
+    read_both(compare, &bytes[..bytes.len() - 1]);
+    read_both(compare, &bytes[..bytes.len() - 2]);
     bytes.push(0x03);
-    read_text(compare, bytes);
+    read_both(compare, bytes);
     bytes.pop();
     let last = bytes.len() - 1;
     bytes[last] ^= 0x40;
-    read_text(compare, bytes);
+    read_both(compare, bytes);
 }
 
 /// Texts at both ends: each first and second byte, each register, half-byte and length, 03 at each place, each byte at each place.
@@ -717,11 +865,11 @@ fn texts(compare: &mut Compare, random: &mut Random) {
                 if end < after {
                     bytes[3 + end] = 0x03;
                 }
-                read_text(compare, &bytes);
+                read_both(compare, &bytes);
                 let last = bytes.len() - 1;
                 if last > 3 {
                     bytes[last] = paper::sum(&bytes[..last]);
-                    read_text(compare, &bytes);
+                    read_both(compare, &bytes);
                 }
             }
         }
@@ -908,7 +1056,11 @@ fn long_inputs(compare: &mut Compare) {
     let got = calls::thermostat_step(1, map, texts, b, out);
     compare.answer(Call::Step, got, 4);
     let b = long.lend(&paper::omnistat(0x81, 0, &[]));
-    compare.answer(Call::ReadAtHost, calls::omnistat_read_at_host(b), 4);
+    for names in NAMES {
+        compare.answer(Call::ReadAtHost, calls::omnistat_read_at_host(names, b), 4);
+    }
+    let got = calls::omnistat_read_at_host([2, 1], b);
+    compare.answer(Call::ReadAtHost, got, 8);
     let mut record = Region::new(1, 0);
     let tally = record.lend_aligned(&[0; 8], 8);
     let b = long.lend(&paper::meter_reply(1, 34567));
@@ -923,12 +1075,16 @@ fn long_inputs(compare: &mut Compare) {
     let got = calls::thermostat_step(1, map, texts, b, out);
     compare.answer(Call::Step, got, 4);
     let b = long.lend(&paper::omnistat_text(0x81, 2, 0, 175, b"low"));
-    compare.answer(Call::ReadAtHost, calls::omnistat_read_at_host(b), 4);
+    for names in NAMES {
+        compare.answer(Call::ReadAtHost, calls::omnistat_read_at_host(names, b), 4);
+    }
     let b = long.lend(&[0x01, 0x01, 175, b'l', b'o', b'w']);
     let got = calls::omnistat_read_at_thermostat(b);
     compare.answer(Call::ReadAtThermostat, got, 8);
     let b = long.lend(&[0x81, 0x02, 175, b'l', b'o', b'w']);
-    compare.answer(Call::ReadAtHost, calls::omnistat_read_at_host(b), 8);
+    for names in NAMES {
+        compare.answer(Call::ReadAtHost, calls::omnistat_read_at_host(names, b), 8);
+    }
     let b = long.lend(&paper::x10_standard(0, 0, 0));
     compare.answer(Call::X10Read, calls::x10_read(b), 4);
     let b = long.lend(&[]);
@@ -940,12 +1096,20 @@ fn long_inputs(compare: &mut Compare) {
     );
     let got = calls::omnistat_write_to_thermostat(1, 2, b, out);
     compare.answer(Call::WriteToThermostat, got, 7);
-    let got = calls::omnistat_write_to_host(1, 0, b, out);
-    compare.answer(Call::WriteToHost, got, 7);
+    for [habit, polled] in NAMES {
+        let got = calls::omnistat_write_to_host([habit, polled, 1, 0], b, out);
+        compare.answer(Call::WriteToHost, got, 7);
+    }
     let got = calls::omnistat_write_text_to_thermostat([1, 0, 175], b, out);
     compare.answer(Call::WriteTextToThermostat, got, 8);
     let got = calls::omnistat_write_text_to_host([1, 0, 175], b, out);
     compare.answer(Call::WriteTextToHost, got, 8);
+    let b = long.lend(&[0; 6]);
+    for [habit, polled] in NAMES {
+        let got = calls::omnistat_write_group_to_host([habit, polled, 1, 1], b, out);
+        compare.answer(Call::WriteGroupToHost, got, 7);
+    }
+    let b = long.lend(&[]);
     let (mut first, mut second) = (Region::new(1, 0), Region::new(1, 0));
     let (secret, door) = (first.lend(&[0; 4]), second.lend(&[0; 4]));
     let got = calls::login_door(secret, door, 0, 0x05, b);
@@ -990,7 +1154,7 @@ fn long_rooms(compare: &mut Compare) {
     let got = calls::omnistat_write_to_thermostat(9, 3, none, out);
     let right = paper::omnistat(9, 3, &[]);
     written(compare, Call::WriteToThermostat, got, &right);
-    let got = calls::omnistat_write_to_host(9, 1, none, out);
+    let got = calls::omnistat_write_to_host([0, 1, 9, 1], none, out);
     let right = paper::omnistat(0x89, 1, &[]);
     written(compare, Call::WriteToHost, got, &right);
     let got = calls::x10_write_unit(3, 4, out);
@@ -1010,6 +1174,10 @@ fn long_rooms(compare: &mut Compare) {
     written(compare, Call::Piece, got, b"frame 0 5 5\n");
     let got = calls::capture_finish(state, out);
     written(compare, Call::Finish, got, b"end 5\n");
+    let values = input.lend(&[8; 10]);
+    let got = calls::omnistat_write_group_to_host([1, 3, 9, 3], values, out);
+    let right = paper::omnistat(0x89, 3, &[8; 10]);
+    written(compare, Call::WriteGroupToHost, got, &right);
     let text = input.lend(b"low");
     let got = calls::omnistat_write_text_to_thermostat([9, 2, 175], text, out);
     let right = paper::omnistat_text(9, 1, 2, 175, b"low");

@@ -2,7 +2,7 @@
 use mathlib.Core.Path.{_≡_, refl, sym, ap, _∙_}
 use mathlib.Core.Bool.{Bool, true, false, not}
 use mathlib.Core.List.{List, [], _∷_}
-use Prim.Native.Nat.{ℕ, zero, suc, _≤_}
+use Prim.Native.Nat.{ℕ, zero, suc, _≤_, _<_}
 use native.Mathlib.Omega.{arith}
 use lib.Dec.{eqb}
 use lib.ListN.{length, getD, drop}
@@ -11,9 +11,14 @@ use Rattle.answer.specs.Answer.{Outcome, refused, accepted, refuseIf, onAccepte
 use Rattle.answer.proofs.Laws.Test.{not-accepted, passed-not, on-accepted, still-refused}
 use Rattle.omnistat.specs.Register.{within, runAllowed, pollAllowed}
 use Rattle.omnistat.specs.declared.frame.End.the-variants.{Thermostat, Host}
-use Rattle.omnistat.specs.Message.{poll, setFrom, dataFrom, ofLength, asPoll, asRun, asMessage}
+use Rattle.omnistat.specs.declared.group.Group.{Group}
+use Rattle.omnistat.specs.declared.group.Group.the-variants.{First, Second, Third}
+use Rattle.omnistat.specs.declared.habit.Habit.{Habit}
+use Rattle.omnistat.specs.declared.habit.Habit.the-variants.{Numbered, Printed}
+use Rattle.omnistat.specs.Group.{replyType, replyLength, repliedGroup}
+use Rattle.omnistat.specs.Message.{Known, numbered, poll, setFrom, dataFrom, group, ofLength, asPoll, asRun, asMessage, asMessageBy}
 use Rattle.omnistat.specs.Parts.{passed}
-use Rattle.omnistat.proofs.Laws.Message.{within-both, refuse-natural, run-natural, names-set, names-data}
+use Rattle.omnistat.proofs.Laws.Message.{within-both, refuse-natural, run-natural, names-set, names-data, names-group}
 
 -- a start register and values
 module _ (d : List ℕ) where
@@ -83,10 +88,25 @@ pub set-checked : (d : List ℕ) → runChecked d ≡ onAccepted passed (asMessa
 set-checked d = sym (run-natural passed setFrom d) ∙ ap (onAccepted passed) (sym (names-set 1 d refl))
 
 pub data-checked : (d : List ℕ) → runChecked d ≡ onAccepted passed (asMessage Host 2 d)
-data-checked d = sym (run-natural passed dataFrom d) ∙ ap (onAccepted passed) (sym (names-data 2 d refl))
+data-checked d = sym (run-natural passed dataFrom d) ∙ ap (onAccepted passed) (sym (names-data 2 d (numbered Host) refl))
 
 pub empty-checked : (kind : ℕ) → kind ≤ 1 → accepted tt ≡ onAccepted passed (asMessage Host kind [])
-unfolding asMessage
+unfolding asMessageBy
 empty-checked zero h = refl
 empty-checked (suc zero) h = refl
 empty-checked (suc (suc kind)) h = absurd (omega arith)
+
+-- the values of the reply with a group are checked by the length of the group that its type names
+above-data : (habit : Habit) (g : Group) → 2 < replyType habit g
+above-data Numbered First = omega arith
+above-data Numbered Second = omega arith
+above-data Numbered Third = omega arith
+above-data Printed g = omega arith
+
+pub group-checked : (known : Known Host) (g carried : Group) (d : List ℕ) → accepted carried ≡ repliedGroup (known .0) (known .1) (replyType (known .0) g)
+    → lengthChecked (replyLength carried) d ≡ onAccepted passed (asMessageBy Host known (replyType (known .0) g) d)
+group-checked known g carried d e =
+    let kind = replyType (known .0) g in
+    let above = above-data (known .0) g in
+    length-checked (replyLength carried) d (group carried d)
+    ∙ ap (onAccepted passed) (sym (names-group kind d known (λ z. omega (arith, above)) (λ z. omega (arith, above)) (λ z. omega (arith, above)) (accepted carried) e))

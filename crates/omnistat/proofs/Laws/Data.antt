@@ -11,8 +11,8 @@ use Rattle.answer.proofs.Laws.Test.{same, fails, passed-not, then-accepted}
 use Rattle.omnistat.specs.declared.frame.End.the-variants.{Host}
 use Rattle.omnistat.specs.Register.{runAllowed}
 use Rattle.omnistat.specs.Frame.{framed, bytesOf, directed, firstOf, summed}
-use Rattle.omnistat.specs.Message.{dataFrom, asMessage}
-use Rattle.omnistat.specs.Omnistat.{counted, addressedCounted, read, writeBytes}
+use Rattle.omnistat.specs.Message.{numbered, dataFrom, asMessage, asMessageBy}
+use Rattle.omnistat.specs.Omnistat.{counted, addressedCounted, read, sent}
 use Rattle.omnistat.specs.Parts.{passed}
 use Rattle.omnistat.proofs.Laws.Message.{inside, within-both}
 use Rattle.omnistat.proofs.Laws.Omnistat.{as-number, write-summed, read-after-write, write-after-read-counted}
@@ -24,10 +24,10 @@ module _ (number start : ℕ) (values : List ℕ) where
 
   pub data-bytes : (bytes : List ℕ) → read Host bytes ≡ accepted (addressedCounted Host number (dataFrom start values))
       → ((1 ≤ number) × (number ≤ 127)) × (bytes ≡ dataBytes)
-  unfolding writeBytes bytesOf
+  unfolding sent bytesOf
   data-bytes bytes e =
       let f = bytesOf (framed (firstOf Host number) 2 (start ∷ values)) in
-      let w = write-after-read-counted Host number (dataFrom start values) bytes e in
+      let w = write-after-read-counted Host (numbered Host) number (dataFrom start values) bytes e in
       let p = then-accepted (asMessage Host 2 (start ∷ values)) (λ m. refuseIf (not (directed Host (firstOf Host number))) 8 (accepted f)) bytes w in
       let q = passed-not (directed Host (firstOf Host number)) 8 (accepted f) bytes (p .2) in
       let d = within-both 129 255 (firstOf Host number) (q .0) in
@@ -35,10 +35,10 @@ module _ (number start : ℕ) (values : List ℕ) where
 
   pub data-read : 1 ≤ number → number ≤ 127 → 1 ≤ length values → length values ≤ 14 → runAllowed start (length values) ≡ true
       → read Host dataBytes ≡ accepted (addressedCounted Host number (dataFrom start values))
-  unfolding asMessage
+  unfolding asMessageBy
   data-read l m few many run =
       let d : directed Host (firstOf Host number) ≡ true = sym (as-number number l) ∙ le-leb number 127 m in
       let a : asMessage Host 2 (start ∷ values) ≡ accepted (dataFrom start values) =
       fails 7 _ (ap not (inside 1 14 (length values) few many)) ∙ fails 8 _ (ap not run) in
-      let w = write-summed Host number 2 (start ∷ values) (sym (ap (onAccepted passed) a)) d (length (start ∷ values) * 16 + 2) refl in
-      read-after-write Host number (counted (dataFrom start values)) dataBytes w
+      let w = write-summed Host (numbered Host) number 2 (start ∷ values) (sym (ap (onAccepted passed) a)) d (length (start ∷ values) * 16 + 2) refl in
+      read-after-write Host (numbered Host) number (counted (dataFrom start values)) dataBytes w

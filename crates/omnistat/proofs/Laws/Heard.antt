@@ -1,6 +1,6 @@
 -- What a reader answers, from the data bytes to the message that they stand in, and from the message back to its bytes. Assumes nothing.
 use mathlib.Core.Path.{_≡_, refl, sym, ap, _∙_}
-use mathlib.Core.Bool.{not}
+use mathlib.Core.Bool.{Bool, not}
 use mathlib.Core.List.{List, _∷_, _++_}
 use Prim.Native.Nat.{ℕ}
 use lib.ListN.{take, drop, take-append-drop}
@@ -14,14 +14,14 @@ use Rattle.omnistat.specs.declared.request.Request.the-variants.{Refused
 use Rattle.omnistat.specs.declared.reply.Reply.{Reply as ReplyAnswer}
 use Rattle.omnistat.specs.declared.reply.Reply.the-variants.{Refused as ReplyRefused, Acknowledge, Negative, Data, Group as GroupAnswer, Text as ReplyText}
 use Rattle.omnistat.specs.Frame.{framed, bytesOf, directed, firstOf}
-use Rattle.omnistat.specs.Message.{Counted, setFrom, dataFrom, asRun, asMessage, bodyOf}
-use Rattle.omnistat.specs.Omnistat.{Message, text, Addressed, addressed, addressedCounted, read, writeBytes}
+use Rattle.omnistat.specs.Message.{Counted, Known, setFrom, dataFrom, asRun, asMessageBy, bodyBy, isPolled}
+use Rattle.omnistat.specs.Omnistat.{Message, text, Addressed, addressed, addressedCounted, readBy, bytesTo, sent, writeBytesBy}
 use Rattle.omnistat.specs.Answer.{requestIn, replyIn}
 use Rattle.omnistat.specs.Parts.{runIn, Says}
 use Rattle.answer.proofs.Laws.Test.{same, passed-not, then-accepted}
 use Rattle.omnistat.proofs.Laws.Message.{run-natural}
 use Rattle.omnistat.proofs.Laws.Omnistat.{write-after-read-counted}
-use Rattle.omnistat.proofs.Laws.Typed.{again}
+use Rattle.omnistat.proofs.Laws.Typed.{told, again}
 
 -- only what follows the second byte is looked at
 request-after : (s : List ℕ) (r : RequestAnswer) → requestIn s r ≡ requestIn (0 ∷ 0 ∷ drop 2 s) r
@@ -64,15 +64,27 @@ run-made end address make payload r says rest =
     ∙ sym (run-natural (addressedCounted end address) make payload)
 
 -- a counted message that is accepted was read from its own type and data bytes, and from these bytes alone
-pub message-read : (end : End) (address : ℕ) (c : Counted end) (s : List ℕ) → read end s ≡ accepted (addressedCounted end address c)
-    → (asMessage end (bodyOf end c .kind) (bodyOf end c .payload) ≡ accepted c)
-    × (s ≡ bytesOf (framed (firstOf end address) (bodyOf end c .kind) (bodyOf end c .payload)))
-unfolding writeBytes
-message-read end address c s e =
-    let bytes = bytesOf (framed (firstOf end address) (bodyOf end c .kind) (bodyOf end c .payload)) in
+pub message-read : (end : End) (known : Known end) (address : ℕ) (c : Counted end) (s : List ℕ) → readBy end known s ≡ accepted (addressedCounted end address c)
+    → (asMessageBy end known (bodyBy end known c .kind) (bodyBy end known c .payload) ≡ accepted c)
+    × (s ≡ bytesOf (framed (firstOf end address) (bodyBy end known c .kind) (bodyBy end known c .payload)))
+unfolding sent
+message-read end known address c s e =
+    let kind = bodyBy end known c .kind in
+    let payload = bodyBy end known c .payload in
+    let bytes = bytesOf (framed (firstOf end address) kind payload) in
     let p =
-    then-accepted (asMessage end (bodyOf end c .kind) (bodyOf end c .payload))
-    (λ n. refuseIf (not (directed end (firstOf end address))) 8 (accepted bytes)) s (write-after-read-counted end address c s e) in (
-      p .1 ∙ ap accepted (sym (again end c (p .0) (p .1))),
-      sym (same (passed-not (directed end (firstOf end address)) 8 (accepted bytes) s (p .2) .1)),
+    then-accepted (asMessageBy end known kind payload) (λ n. refuseIf (not (isPolled end known c)) 8 (bytesTo end address kind payload))
+    s (write-after-read-counted end known address c s e) in
+    let q = passed-not (isPolled end known c) 8 (bytesTo end address kind payload) s (p .2) in (
+      p .1 ∙ ap accepted (sym (again end known c (p .0) (q .0) (p .1))),
+      sym (same (passed-not (directed end (firstOf end address)) 8 (accepted bytes) s (q .1) .1)),
     )
+
+-- so its type and data bytes are written as the same bytes
+pub written-by-type : (end : End) (known : Known end) (address : ℕ) (c : Counted end) (s : List ℕ) → readBy end known s ≡ accepted (addressedCounted end address c)
+    → writeBytesBy end known address (bodyBy end known c .kind) (bodyBy end known c .payload) ≡ accepted s
+written-by-type end known address c s e =
+    let kind = bodyBy end known c .kind in
+    let payload = bodyBy end known c .payload in
+    ap (λ (b : Bool). sent end known b address kind payload) (sym (told end known kind payload c (message-read end known address c s e .0) .1 .2))
+    ∙ write-after-read-counted end known address c s e

@@ -12,8 +12,8 @@ use Rattle.answer.specs.Answer.{Outcome, refused, accepted, refuseIf, onAccepte
 use Rattle.omnistat.specs.declared.group.Group.{Group}
 use Rattle.omnistat.specs.declared.frame.End.the-variants.{Thermostat, Host}
 use Rattle.omnistat.specs.Register.{within, runAllowed, pollAllowed}
-use Rattle.omnistat.specs.Group.{pollType, replyType, replyLength, groupOf}
-use Rattle.omnistat.specs.Message.{poll, setFrom, pollGroup, acknowledge, negative, dataFrom, group, ofLength, asPoll, asRun, asMessage}
+use Rattle.omnistat.specs.Group.{pollType, replyLength, groupOf, repliedGroup}
+use Rattle.omnistat.specs.Message.{Known, poll, setFrom, pollGroup, acknowledge, negative, dataFrom, group, ofLength, asPoll, asRun, asMessage, asMessageBy}
 
 module _ (lo hi n : ℕ) where
   pub too-low : n < lo → within lo hi n ≡ false
@@ -82,34 +82,35 @@ run-natural f make (a ∷ d) =
 -- which message a type names
 module _ (kind : ℕ) (d : List ℕ) where
   pub names-poll : kind ≡ 0 → asMessage Thermostat kind d ≡ asPoll d
-  unfolding asMessage
+  unfolding asMessageBy
   names-poll h = ap (λ (k : ℕ). asMessage Thermostat k d) h
 
   pub names-set : kind ≡ 1 → asMessage Thermostat kind d ≡ asRun setFrom d
-  unfolding asMessage
+  unfolding asMessageBy
   names-set h = ap (λ (k : ℕ). asMessage Thermostat k d) h
 
   pub names-group-poll : (kind ≡ 0 → ⊥) → (kind ≡ 1 → ⊥) → (o : Outcome Group) → o ≡ groupOf pollType kind
       → asMessage Thermostat kind d ≡ andThen o (λ g. ofLength 0 d (pollGroup g))
-  unfolding asMessage
+  unfolding asMessageBy
   names-group-poll a b o e =
       simp (ne-eqb kind 0 a, ne-eqb kind 1 b) (ap (λ (x : Outcome Group). andThen x (λ g. ofLength 0 d (pollGroup g))) (sym e))
 
-  pub names-acknowledge : kind ≡ 0 → asMessage Host kind d ≡ ofLength 0 d acknowledge
-  unfolding asMessage
-  names-acknowledge h = ap (λ (k : ℕ). asMessage Host k d) h
+  module _ (known : Known Host) where
+    pub names-acknowledge : kind ≡ 0 → asMessageBy Host known kind d ≡ ofLength 0 d acknowledge
+    unfolding asMessageBy
+    names-acknowledge h = ap (λ (k : ℕ). asMessageBy Host known k d) h
 
-  pub names-negative : kind ≡ 1 → asMessage Host kind d ≡ ofLength 0 d negative
-  unfolding asMessage
-  names-negative h = ap (λ (k : ℕ). asMessage Host k d) h
+    pub names-negative : kind ≡ 1 → asMessageBy Host known kind d ≡ ofLength 0 d negative
+    unfolding asMessageBy
+    names-negative h = ap (λ (k : ℕ). asMessageBy Host known k d) h
 
-  pub names-data : kind ≡ 2 → asMessage Host kind d ≡ asRun dataFrom d
-  unfolding asMessage
-  names-data h = ap (λ (k : ℕ). asMessage Host k d) h
+    pub names-data : kind ≡ 2 → asMessageBy Host known kind d ≡ asRun dataFrom d
+    unfolding asMessageBy
+    names-data h = ap (λ (k : ℕ). asMessageBy Host known k d) h
 
-  pub names-group : (kind ≡ 0 → ⊥) → (kind ≡ 1 → ⊥) → (kind ≡ 2 → ⊥) → (o : Outcome Group) → o ≡ groupOf replyType kind
-      → asMessage Host kind d ≡ andThen o (λ g. ofLength (replyLength g) d (group g d))
-  unfolding asMessage
-  names-group a b f o e =
-      simp (ne-eqb kind 0 a, ne-eqb kind 1 b, ne-eqb kind 2 f)
-      (ap (λ (x : Outcome Group). andThen x (λ g. ofLength (replyLength g) d (group g d))) (sym e))
+    pub names-group : (kind ≡ 0 → ⊥) → (kind ≡ 1 → ⊥) → (kind ≡ 2 → ⊥) → (o : Outcome Group) → o ≡ repliedGroup (known .0) (known .1) kind
+        → asMessageBy Host known kind d ≡ andThen o (λ g. ofLength (replyLength g) d (group g d))
+    unfolding asMessageBy
+    names-group a b f o e =
+        simp (ne-eqb kind 0 a, ne-eqb kind 1 b, ne-eqb kind 2 f)
+        (ap (λ (x : Outcome Group). andThen x (λ g. ofLength (replyLength g) d (group g d))) (sym e))

@@ -1,4 +1,4 @@
--- Reading and writing at both ends undo each other. Assumes nothing.
+-- Reading and writing at both ends undo each other, whatever is known there: with either habit, after each poll. Assumes nothing.
 use mathlib.Core.Path.{_≡_, refl, sym, ap, _∙_, subst}
 use mathlib.Core.Bool.{Bool, true, false, not, _&&_}
 use mathlib.Core.List.{List, [], _∷_, _++_}
@@ -9,14 +9,14 @@ use lib.Dec.{leb, T}
 use lib.ListN.{length}
 use lib.Pow.{areBytes}
 use borrow.Author.Tests.{leb-true, leb-false}
-use Rattle.answer.specs.Answer.{refused, accepted, refuseIf, onAccepted}
+use Rattle.answer.specs.Answer.{Outcome, refused, accepted, refuseIf, onAccepted, andThen}
 use Rattle.omnistat.specs.declared.frame.End.{End}
 use Rattle.omnistat.specs.declared.frame.End.the-variants.{Thermostat, Host}
 use Rattle.omnistat.specs.Register.{isText}
 use Rattle.omnistat.specs.Frame.{Frame, frame, directed, addressOf, firstOf, bytesOf, summed}
-use Rattle.omnistat.specs.Message.{Counted, asMessage, bodyOf}
+use Rattle.omnistat.specs.Message.{Counted, Known, asMessageBy, bodyBy, isPolled}
 use Rattle.omnistat.specs.Text.{Text, areCharacters, textType, carriesText, readText, writeText, textAllowed, textBytes}
-use Rattle.omnistat.specs.Omnistat.{Message, counted, text, Addressed, addressed, addressedCounted, addressedText, readCounted, read, write, writeBytes}
+use Rattle.omnistat.specs.Omnistat.{Message, counted, text, Addressed, addressed, addressedCounted, addressedText, readCountedBy, readBy, bytesTo, sent, writeBytesBy, writeBy}
 use Rattle.omnistat.specs.Parts.{passed}
 use Rattle.answer.proofs.Laws.Test.{same, passed-not, then-accepted, on-accepted, still-refused, chosen}
 use Rattle.omnistat.proofs.Laws.Frame.{taken-apart, read-back}
@@ -25,22 +25,22 @@ use Rattle.omnistat.proofs.Laws.Typed.{told, kind-fits, again}
 use Rattle.omnistat.proofs.Laws.Text.{no-text, text-carried, text-read-back, text-taken-apart, text-fits}
 
 -- reading, by the type and the third byte, and by the frame
-module _ (end : End) (s : List ℕ) where
-  pub read-counted : carriesText end s ≡ false → read end s ≡ readCounted end s
-  unfolding read
+module _ (end : End) (known : Known end) (s : List ℕ) where
+  pub read-counted : carriesText end s ≡ false → readBy end known s ≡ readCountedBy end known s
+  unfolding readBy
   read-counted e = simp e
 
-  pub read-text : carriesText end s ≡ true → read end s ≡ onAccepted (addressedText end) (readText end s)
-  unfolding read
+  pub read-text : carriesText end s ≡ true → readBy end known s ≡ onAccepted (addressedText end) (readText end s)
+  unfolding readBy
   read-text e = simp e
 
-  pub counted-refused : (n : ℕ) → refused n ≡ frame end s → readCounted end s ≡ refused n
-  unfolding readCounted
+  pub counted-refused : (n : ℕ) → refused n ≡ frame end s → readCountedBy end known s ≡ refused n
+  unfolding readCountedBy
   counted-refused n e = rw (← e)
 
   pub counted-whole : (f : Frame) → accepted f ≡ frame end s
-      → readCounted end s ≡ onAccepted (addressedCounted end (addressOf end (f .first))) (asMessage end (f .kind) (f .payload))
-  unfolding readCounted
+      → readCountedBy end known s ≡ onAccepted (addressedCounted end (addressOf end (f .first))) (asMessageBy end known (f .kind) (f .payload))
+  unfolding readCountedBy
   counted-whole f e = rw (← e)
 
 -- the first byte and the address name one another
@@ -77,76 +77,85 @@ first-of-address Host first e =
     omega (arith, p .0)
 
 -- what is written for a type and data bytes is read as the message that they name
-pub read-after-write-bytes : (end : End) (address kind : ℕ) (payload bytes : List ℕ) → writeBytes end address kind payload ≡ accepted bytes
-    → (c : Counted end) × (asMessage end kind payload ≡ accepted c) × (read end bytes ≡ accepted (addressedCounted end address c))
-unfolding writeBytes
-read-after-write-bytes end address kind payload bytes e =
+pub read-after-sent : (end : End) (known : Known end) (polled : Bool) (address kind : ℕ) (payload bytes : List ℕ)
+    → sent end known polled address kind payload ≡ accepted bytes
+    → (c : Counted end) × (asMessageBy end known kind payload ≡ accepted c) × (readBy end known bytes ≡ accepted (addressedCounted end address c)) × (polled ≡ true)
+unfolding sent
+read-after-sent end known polled address kind payload bytes e =
     let f : Frame = record { first = firstOf end address; kind = kind; payload = payload } in
-    let p = then-accepted (asMessage end kind payload) (λ m. refuseIf (not (directed end (firstOf end address))) 8 (accepted (bytesOf f))) bytes e in
-    let q = passed-not (directed end (firstOf end address)) 8 (accepted (bytesOf f)) bytes (p .2) in
-    let k : kind < 16 = subst (λ (n : ℕ). n < 16) (told end kind payload (p .0) (p .1) .0) (kind-fits end (p .0)) in
+    let p = then-accepted (asMessageBy end known kind payload) (λ m. refuseIf (not polled) 8 (bytesTo end address kind payload)) bytes e in
+    let o = passed-not polled 8 (bytesTo end address kind payload) bytes (p .2) in
+    let q = passed-not (directed end (firstOf end address)) 8 (accepted (bytesOf f)) bytes (o .1) in
+    let k : kind < 16 = subst (λ (n : ℕ). n < 16) (told end known kind payload (p .0) (p .1) .0) (kind-fits end known (p .0)) in
     let r =
-    ap (read end) (sym (same (q .1)))
-    ∙ read-counted end (bytesOf f) (no-text end (firstOf end address) kind payload (p .0) k (p .1))
-    ∙ counted-whole end (bytesOf f) f (sym (read-back end f (q .0) k))
-    ∙ ap (λ (a : ℕ). onAccepted (addressedCounted end a) (asMessage end kind payload)) (address-of-first end address) in
-    (p .0, p .1, r ∙ ap (onAccepted (addressedCounted end address)) (p .1))
+    ap (readBy end known) (sym (same (q .1)))
+    ∙ read-counted end known (bytesOf f) (no-text end known (firstOf end address) kind payload (p .0) k (p .1))
+    ∙ counted-whole end known (bytesOf f) f (sym (read-back end f (q .0) k))
+    ∙ ap (λ (a : ℕ). onAccepted (addressedCounted end a) (asMessageBy end known kind payload)) (address-of-first end address) in
+    (p .0, p .1, r ∙ ap (onAccepted (addressedCounted end address)) (p .1), o .0)
+
+pub read-after-write-bytes : (end : End) (known : Known end) (address kind : ℕ) (payload bytes : List ℕ) → writeBytesBy end known address kind payload ≡ accepted bytes
+    → (c : Counted end) × (asMessageBy end known kind payload ≡ accepted c) × (readBy end known bytes ≡ accepted (addressedCounted end address c))
+read-after-write-bytes end known address kind payload bytes e =
+    let r = read-after-sent end known true address kind payload bytes e in
+    (r .0, r .1, r .2)
 
 -- a text that is written is read back as the same text
-text-after-write : (end : End) (address : ℕ) (t : Text) (bytes : List ℕ) → writeText end address t ≡ accepted bytes
-    → read end bytes ≡ accepted (addressed address (text t))
+text-after-write : (end : End) (known : Known end) (address : ℕ) (t : Text) (bytes : List ℕ) → writeText end address t ≡ accepted bytes
+    → readBy end known bytes ≡ accepted (addressed address (text t))
 unfolding writeText
-text-after-write end address t bytes e =
+text-after-write end known address t bytes e =
     let first = firstOf end address in
     let p = passed-not (directed end first && textAllowed t) 8 (accepted (textBytes end first t)) bytes e in
     let q = and-parts (directed end first) (textAllowed t) (p .0) in
-    ap (read end) (sym (same (p .1)))
-    ∙ read-text end (textBytes end first t) (text-carried end first t (q .1))
+    ap (readBy end known) (sym (same (p .1)))
+    ∙ read-text end known (textBytes end first t) (text-carried end first t (q .1))
     ∙ ap (onAccepted (addressedText end)) (text-read-back end first t (q .0) (q .1))
     ∙ ap (λ (a : ℕ). accepted (addressed a (text t))) (address-of-first end address)
 
 -- what is written is read back as the same message
-pub read-after-write : (end : End) (address : ℕ) (m : Message end) (bytes : List ℕ) → write end address m ≡ accepted bytes
-    → read end bytes ≡ accepted (addressed address m)
-read-after-write end address (counted c) bytes e =
-    let r = read-after-write-bytes end address (bodyOf end c .kind) (bodyOf end c .payload) bytes e in
-    r .2 ∙ ap (λ (x : Counted end). accepted (addressedCounted end address x)) (sym (again end c (r .0) (r .1)))
-read-after-write end address (text t) bytes e = text-after-write end address t bytes e
+pub read-after-write : (end : End) (known : Known end) (address : ℕ) (m : Message end) (bytes : List ℕ) → writeBy end known address m ≡ accepted bytes
+    → readBy end known bytes ≡ accepted (addressed address m)
+read-after-write end known address (counted c) bytes e =
+    let r = read-after-sent end known (isPolled end known c) address (bodyBy end known c .kind) (bodyBy end known c .payload) bytes e in
+    r .2 ∙ ap (λ (x : Counted end). accepted (addressedCounted end address x)) (sym (again end known c (r .0) (r .3) (r .1)))
+read-after-write end known address (text t) bytes e = text-after-write end known address t bytes e
 
 -- the bytes of a frame are written for its type and data bytes, where these name a message
-written-again : (end : End) (f : Frame) (m : Counted end) → asMessage end (f .kind) (f .payload) ≡ accepted m → directed end (f .first) ≡ true
-    → writeBytes end (addressOf end (f .first)) (f .kind) (f .payload) ≡ accepted (bytesOf f)
-unfolding writeBytes
-written-again end f m e d =
+written-again : (end : End) (known : Known end) (f : Frame) (m : Counted end) → asMessageBy end known (f .kind) (f .payload) ≡ accepted m → directed end (f .first) ≡ true
+    → writeBytesBy end known (addressOf end (f .first)) (f .kind) (f .payload) ≡ accepted (bytesOf f)
+unfolding sent
+written-again end known f m e d =
     simp (e, ap (directed end) (first-of-address end (f .first) d) ∙ d)
     (ap (λ (first : ℕ). accepted (bytesOf (record { first = first; kind = f .kind; payload = f .payload }))) (first-of-address end (f .first) d))
 
 -- a counted message that is read is written as the same bytes
-counted-after-read : (end : End) (address : ℕ) (m : Message end) (bytes : List ℕ) → readCounted end bytes ≡ accepted (addressed address m)
-    → write end address m ≡ accepted bytes
-unfolding readCounted
-counted-after-read end address m bytes e =
+counted-after-read : (end : End) (known : Known end) (address : ℕ) (m : Message end) (bytes : List ℕ) → readCountedBy end known bytes ≡ accepted (addressed address m)
+    → writeBy end known address m ≡ accepted bytes
+unfolding readCountedBy
+counted-after-read end known address m bytes e =
     let p =
-    then-accepted (frame end bytes) (λ f. onAccepted (addressedCounted end (addressOf end (f .first))) (asMessage end (f .kind) (f .payload)))
+    then-accepted (frame end bytes) (λ f. onAccepted (addressedCounted end (addressOf end (f .first))) (asMessageBy end known (f .kind) (f .payload)))
     (addressed address m) e in
     let f : Frame = p .0 in
-    let q = on-accepted (addressedCounted end (addressOf end (f .first))) (asMessage end (f .kind) (f .payload)) (addressed address m) (p .2) in
+    let q = on-accepted (addressedCounted end (addressOf end (f .first))) (asMessageBy end known (f .kind) (f .payload)) (addressed address m) (p .2) in
     let t = taken-apart end bytes f (p .1) in
-    let n = told end (f .kind) (f .payload) (q .0) (q .1) in
+    let n = told end known (f .kind) (f .payload) (q .0) (q .1) in
     let a : addressOf end (f .first) ≡ address = ap (λ (x : Addressed (Message end)). x .address) (q .2) in
     let g : counted (q .0) ≡ m = ap (λ (x : Addressed (Message end)). x .message) (q .2) in
-    ap (λ (x : Message end). write end address x) (sym g)
-    ∙ ap (λ (i : ℕ). writeBytes end i (bodyOf end (q .0) .kind) (bodyOf end (q .0) .payload)) (sym a)
-    ∙ ap (λ (k : ℕ). writeBytes end (addressOf end (f .first)) k (bodyOf end (q .0) .payload)) (n .0)
-    ∙ ap (λ (d : List ℕ). writeBytes end (addressOf end (f .first)) (f .kind) d) (n .1 .0)
-    ∙ written-again end f (q .0) (q .1) (t .0)
+    ap (λ (x : Message end). writeBy end known address x) (sym g)
+    ∙ ap (λ (b : Bool). sent end known b address (bodyBy end known (q .0) .kind) (bodyBy end known (q .0) .payload)) (n .1 .2)
+    ∙ ap (λ (i : ℕ). writeBytesBy end known i (bodyBy end known (q .0) .kind) (bodyBy end known (q .0) .payload)) (sym a)
+    ∙ ap (λ (k : ℕ). writeBytesBy end known (addressOf end (f .first)) k (bodyBy end known (q .0) .payload)) (n .0)
+    ∙ ap (λ (d : List ℕ). writeBytesBy end known (addressOf end (f .first)) (f .kind) d) (n .1 .0)
+    ∙ written-again end known f (q .0) (q .1) (t .0)
     ∙ ap accepted (t .2)
 
 -- a text that is read is written as the same bytes, with the same half-byte
-text-after-read : (end : End) (address : ℕ) (m : Message end) (bytes : List ℕ) → T (areBytes bytes) → carriesText end bytes ≡ true
-    → onAccepted (addressedText end) (readText end bytes) ≡ accepted (addressed address m) → write end address m ≡ accepted bytes
+text-after-read : (end : End) (known : Known end) (address : ℕ) (m : Message end) (bytes : List ℕ) → T (areBytes bytes) → carriesText end bytes ≡ true
+    → onAccepted (addressedText end) (readText end bytes) ≡ accepted (addressed address m) → writeBy end known address m ≡ accepted bytes
 unfolding writeText
-text-after-read end address m bytes b k e =
+text-after-read end known address m bytes b k e =
     let q = on-accepted (addressedText end) (readText end bytes) (addressed address m) e in
     let t = q .0 .1 in
     let p = text-taken-apart end bytes (q .0) b k (q .1) in
@@ -154,17 +163,17 @@ text-after-read end address m bytes b k e =
     let g : text t ≡ m = ap (λ (x : Addressed (Message end)). x .message) (q .2) in
     let f : firstOf end address ≡ p .0 = ap (firstOf end) (sym a ∙ p .2) ∙ first-of-address end (p .0) (p .1) in
     let d : directed end (firstOf end address) ≡ true = ap (directed end) f ∙ p .1 in
-    ap (λ (x : Message end). write end address x) (sym g)
+    ap (λ (x : Message end). writeBy end known address x) (sym g)
     ∙ simp (d, p .3)
     (ap (λ (first : ℕ). accepted (textBytes end first t)) f ∙ ap accepted (p .4))
 
 -- what is read from bytes is written as the same bytes
-pub write-after-read : (end : End) (address : ℕ) (m : Message end) (bytes : List ℕ) → T (areBytes bytes)
-    → read end bytes ≡ accepted (addressed address m) → write end address m ≡ accepted bytes
-unfolding read
-write-after-read end address m bytes b e =
-    ⊎-elim (λ p. text-after-read end address m bytes b (p .0) (p .1)) (λ p. counted-after-read end address m bytes (p .1))
-    (chosen (carriesText end bytes) (onAccepted (addressedText end) (readText end bytes)) (readCounted end bytes) (accepted (addressed address m)) e)
+pub write-after-read : (end : End) (known : Known end) (address : ℕ) (m : Message end) (bytes : List ℕ) → T (areBytes bytes)
+    → readBy end known bytes ≡ accepted (addressed address m) → writeBy end known address m ≡ accepted bytes
+unfolding readBy
+write-after-read end known address m bytes b e =
+    ⊎-elim (λ p. text-after-read end known address m bytes b (p .0) (p .1)) (λ p. counted-after-read end known address m bytes (p .1))
+    (chosen (carriesText end bytes) (onAccepted (addressedText end) (readText end bytes)) (readCountedBy end known bytes) (accepted (addressed address m)) e)
 
 -- a message is a text or counted
 counted-is-no-text : (end : End) (a b : ℕ) (c : Counted end) (t : Text) → addressedCounted end a c ≡ addressed b (text t) → ⊥
@@ -177,34 +186,34 @@ counted-is-no-text end a b c t h =
     which (text x) = 1
 
 -- a counted message was read as one, so that it is written as the same bytes whatever they are
-pub write-after-read-counted : (end : End) (address : ℕ) (c : Counted end) (bytes : List ℕ) → read end bytes ≡ accepted (addressedCounted end address c)
-    → write end address (counted c) ≡ accepted bytes
-unfolding read
-write-after-read-counted end address c bytes e =
+pub write-after-read-counted : (end : End) (known : Known end) (address : ℕ) (c : Counted end) (bytes : List ℕ) → readBy end known bytes ≡ accepted (addressedCounted end address c)
+    → writeBy end known address (counted c) ≡ accepted bytes
+unfolding readBy
+write-after-read-counted end known address c bytes e =
     ⊎-elim
     (λ p.
     let q = on-accepted (addressedText end) (readText end bytes) (addressedCounted end address c) (p .1) in
     absurd (counted-is-no-text end address (q .0 .0) c (q .0 .1) (sym (q .2))))
-    (λ p. counted-after-read end address (counted c) bytes (p .1))
-    (chosen (carriesText end bytes) (onAccepted (addressedText end) (readText end bytes)) (readCounted end bytes) (accepted (addressedCounted end address c)) e)
+    (λ p. counted-after-read end known address (counted c) bytes (p .1))
+    (chosen (carriesText end bytes) (onAccepted (addressedText end) (readText end bytes)) (readCountedBy end known bytes) (accepted (addressedCounted end address c)) e)
 
 -- a text was read as one: its register holds text, and its characters may be held
-pub text-heard : (end : End) (address : ℕ) (t : Text) (bytes : List ℕ) → read end bytes ≡ accepted (addressed address (text t))
+pub text-heard : (end : End) (known : Known end) (address : ℕ) (t : Text) (bytes : List ℕ) → readBy end known bytes ≡ accepted (addressed address (text t))
     → (isText (t .start) ≡ true) × (length (t .characters) ≤ 60) × (areCharacters (t .characters) ≡ true)
-unfolding read readCounted
-text-heard end address t bytes e =
+unfolding readBy readCountedBy
+text-heard end known address t bytes e =
     ⊎-elim
     (λ p.
     let q = on-accepted (addressedText end) (readText end bytes) (addressed address (text t)) (p .1) in
     subst Fits (ap (λ (x : Addressed (Message end)). textOf (x .message)) (q .2)) (text-fits end bytes (q .0) (p .0) (q .1)))
     (λ p.
     let f =
-    then-accepted (frame end bytes) (λ f. onAccepted (addressedCounted end (addressOf end (f .first))) (asMessage end (f .kind) (f .payload)))
+    then-accepted (frame end bytes) (λ f. onAccepted (addressedCounted end (addressOf end (f .first))) (asMessageBy end known (f .kind) (f .payload)))
     (addressed address (text t)) (p .1) in
     let q =
-    on-accepted (addressedCounted end (addressOf end (f .0 .first))) (asMessage end (f .0 .kind) (f .0 .payload)) (addressed address (text t)) (f .2) in
+    on-accepted (addressedCounted end (addressOf end (f .0 .first))) (asMessageBy end known (f .0 .kind) (f .0 .payload)) (addressed address (text t)) (f .2) in
     absurd (counted-is-no-text end (addressOf end (f .0 .first)) address (q .0) t (q .2)))
-    (chosen (carriesText end bytes) (onAccepted (addressedText end) (readText end bytes)) (readCounted end bytes) (accepted (addressed address (text t))) e)
+    (chosen (carriesText end bytes) (onAccepted (addressedText end) (readText end bytes)) (readCountedBy end known bytes) (accepted (addressed address (text t))) e)
   where
     textOf : Message end → Text
     textOf (counted x) = t
@@ -213,32 +222,54 @@ text-heard end address t bytes e =
     Fits : Text → Type 0
     Fits x = (isText (x .start) ≡ true) × (length (x .characters) ≤ 60) × (areCharacters (x .characters) ≡ true)
 
--- writing, by what the checks of the type and the data bytes say
+-- the bytes to an address
 module _ (end : End) (address kind : ℕ) (payload : List ℕ) where
-  pub write-refused : (n : ℕ) → refused n ≡ onAccepted passed (asMessage end kind payload) → writeBytes end address kind payload ≡ refused n
-  unfolding writeBytes
-  write-refused n e = simp (still-refused passed (asMessage end kind payload) n (sym e))
+  pub misaddressed : directed end (firstOf end address) ≡ false → bytesTo end address kind payload ≡ refused 8
+  misaddressed a = simp a
 
-  module _ (e : accepted tt ≡ onAccepted passed (asMessage end kind payload)) where
+  pub to-summed : directed end (firstOf end address) ≡ true → (second : ℕ) → second ≡ length payload * 16 + kind
+      → bytesTo end address kind payload ≡ accepted (summed (firstOf end address ∷ second ∷ payload))
+  unfolding bytesOf
+  to-summed a second s = simp a (ap (λ (n : ℕ). accepted (summed (firstOf end address ∷ n ∷ payload))) (sym s))
+
+-- writing, by what the checks of the type and the data bytes say
+module _ (end : End) (known : Known end) (address kind : ℕ) (payload : List ℕ) where
+  pub write-refused : (n : ℕ) → refused n ≡ onAccepted passed (asMessageBy end known kind payload) → writeBytesBy end known address kind payload ≡ refused n
+  unfolding sent
+  write-refused n e = simp (still-refused passed (asMessageBy end known kind payload) n (sym e))
+
+  -- the check of the type and the data bytes, that of the polled group, and then the bytes
+  pub sent-in-steps : (polled : Bool) → sent end known polled address kind payload
+      ≡ andThen (andThen (onAccepted passed (asMessageBy end known kind payload)) (λ fit. refuseIf (not polled) 8 (accepted fit))) (λ fit. bytesTo end address kind payload)
+  unfolding sent
+  sent-in-steps polled = by (asMessageBy end known kind payload) polled
+    where
+      by : (o : Outcome (Counted end)) (b : Bool)
+          → andThen o (λ m. refuseIf (not b) 8 (bytesTo end address kind payload))
+          ≡ andThen (andThen (onAccepted passed o) (λ fit. refuseIf (not b) 8 (accepted fit))) (λ fit. bytesTo end address kind payload)
+      by (refused n) b = refl
+      by (accepted m) true = refl
+      by (accepted m) false = refl
+
+  module _ (e : accepted tt ≡ onAccepted passed (asMessageBy end known kind payload)) where
     pub frame-fits : (kind < 16) × (length payload ≤ 15)
     frame-fits =
-        let p = on-accepted passed (asMessage end kind payload) tt (sym e) in (
-          subst (λ (k : ℕ). k < 16) (told end kind payload (p .0) (p .1) .0) (kind-fits end (p .0)),
-          told end kind payload (p .0) (p .1) .1 .1,
+        let p = on-accepted passed (asMessageBy end known kind payload) tt (sym e) in (
+          subst (λ (k : ℕ). k < 16) (told end known kind payload (p .0) (p .1) .0) (kind-fits end known (p .0)),
+          told end known kind payload (p .0) (p .1) .1 .1,
         )
 
-    pub write-misaddressed : directed end (firstOf end address) ≡ false → writeBytes end address kind payload ≡ refused 8
-    unfolding writeBytes
-    write-misaddressed a =
-        let p = on-accepted passed (asMessage end kind payload) tt (sym e) in
-        simp (p .1, a)
+    pub write-checked : writeBytesBy end known address kind payload ≡ bytesTo end address kind payload
+    write-checked =
+        sent-in-steps true
+        ∙ ap (λ (o : Outcome (Unit {0})). andThen (andThen o (λ fit. refuseIf (not true) 8 (accepted fit))) (λ fit. bytesTo end address kind payload)) (sym e)
+
+    pub write-misaddressed : directed end (firstOf end address) ≡ false → writeBytesBy end known address kind payload ≡ refused 8
+    write-misaddressed a = write-checked ∙ misaddressed end address kind payload a
 
     pub write-summed : directed end (firstOf end address) ≡ true → (second : ℕ) → second ≡ length payload * 16 + kind
-        → writeBytes end address kind payload ≡ accepted (summed (firstOf end address ∷ second ∷ payload))
-    unfolding writeBytes bytesOf
-    write-summed a second s =
-        let p = on-accepted passed (asMessage end kind payload) tt (sym e) in
-        simp (p .1, a) (ap (λ (n : ℕ). accepted (summed (firstOf end address ∷ n ∷ payload))) (sym s))
+        → writeBytesBy end known address kind payload ≡ accepted (summed (firstOf end address ∷ second ∷ payload))
+    write-summed a second s = write-checked ∙ to-summed end address kind payload a second s
 
 -- writing a text, by what its checks say
 module _ (end : End) (address : ℕ) (t : Text) where

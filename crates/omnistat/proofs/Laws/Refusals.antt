@@ -9,12 +9,14 @@ use Rattle.omnistat.specs.declared.frame.End.{End}
 use Rattle.omnistat.specs.declared.frame.End.the-variants.{Thermostat, Host}
 use Rattle.omnistat.specs.declared.group.Group.{Group}
 use Rattle.omnistat.specs.declared.group.Group.the-variants.{First, Second, Third}
+use Rattle.omnistat.specs.declared.habit.Habit.{Habit}
+use Rattle.omnistat.specs.declared.habit.Habit.the-variants.{Numbered, Printed}
 use Rattle.omnistat.specs.Register.{within, runAllowed, pollAllowed}
 use Rattle.omnistat.specs.Frame.{frame, directed, addressOf, sumOf}
-use Rattle.omnistat.specs.Group.{pollType, replyType, replyLength, groupOf}
-use Rattle.omnistat.specs.Message.{asPoll, asRun, asMessage, setFrom, dataFrom, ofLength}
+use Rattle.omnistat.specs.Group.{pollType, replyType, replyLength, groupOf, repliedGroup}
+use Rattle.omnistat.specs.Message.{Known, asPoll, asRun, asMessageBy, setFrom, dataFrom, ofLength}
 use Rattle.omnistat.specs.Text.{Text, mostCharacters, untilEnd, areCharacters, carriesText, ended, readText}
-use Rattle.omnistat.specs.Omnistat.{addressedCounted, addressedText, readCounted, read}
+use Rattle.omnistat.specs.Omnistat.{addressedCounted, addressedText, readCountedBy, readBy}
 
 frame-refusals : (end : End) (s : List ℕ) → AtMost 8 (frame end s)
 unfolding frame
@@ -44,17 +46,21 @@ group-refusals : (type : Group → ℕ) (kind : ℕ) → AtMost 8 (groupOf type 
 group-refusals type kind =
     either 8 (eqb kind (type First)) _ _ tt (either 8 (eqb kind (type Second)) _ _ tt (either 8 (eqb kind (type Third)) _ _ tt (lit≤ tt)))
 
-message-refusals : (end : End) (kind : ℕ) (payload : List ℕ) → AtMost 8 (asMessage end kind payload)
-unfolding asMessage
-message-refusals Thermostat kind payload =
+reply-refusals : (habit : Habit) (polled : Group) (kind : ℕ) → AtMost 8 (repliedGroup habit polled kind)
+reply-refusals Numbered polled kind = group-refusals (replyType Numbered) kind
+reply-refusals Printed polled kind = either 8 (eqb kind 3) _ _ tt (lit≤ tt)
+
+message-refusals : (end : End) (known : Known end) (kind : ℕ) (payload : List ℕ) → AtMost 8 (asMessageBy end known kind payload)
+unfolding asMessageBy
+message-refusals Thermostat known kind payload =
     either 8 (eqb kind 0) _ _ (poll-refusals payload)
     (either 8 (eqb kind 1) _ _ (run-refusals setFrom payload)
     (further 8 (groupOf pollType kind) _ (group-refusals pollType kind) (λ g. length-refusals 0 payload _)))
-message-refusals Host kind payload =
+message-refusals Host (habit, polled) kind payload =
     either 8 (eqb kind 0) _ _ (length-refusals 0 payload _)
     (either 8 (eqb kind 1) _ _ (length-refusals 0 payload _)
     (either 8 (eqb kind 2) _ _ (run-refusals dataFrom payload)
-    (further 8 (groupOf replyType kind) _ (group-refusals replyType kind) (λ g. length-refusals (replyLength g) payload _))))
+    (further 8 (repliedGroup habit polled kind) _ (reply-refusals habit polled kind) (λ g. length-refusals (replyLength g) payload _))))
 
 ended-refusals : (first second start : ℕ) (rest : List ℕ) (n : ℕ) → AtMost 8 (ended first second start rest n)
 ended-refusals first second start rest n =
@@ -74,9 +80,9 @@ text-refusals end (first ∷ second ∷ start ∷ rest) =
     let n = untilEnd (take (suc mostCharacters) rest) in
     check 8 (not (directed end first)) 2 _ (lit≤ tt) (make 8 addressed (ended first second start rest n) (ended-refusals first second start rest n))
 
-pub read-refusals : (end : End) (s : List ℕ) → AtMost 8 (read end s)
-unfolding read readCounted
-read-refusals end s =
+pub read-refusals : (end : End) (known : Known end) (s : List ℕ) → AtMost 8 (readBy end known s)
+unfolding readBy readCountedBy
+read-refusals end known s =
     either 8 (carriesText end s) _ _ (make 8 (addressedText end) (readText end s) (text-refusals end s))
     (further 8 (frame end s) _ (frame-refusals end s)
-    (λ f. make 8 (addressedCounted end (addressOf end (f .first))) (asMessage end (f .kind) (f .payload)) (message-refusals end (f .kind) (f .payload))))
+    (λ f. make 8 (addressedCounted end (addressOf end (f .first))) (asMessageBy end known (f .kind) (f .payload)) (message-refusals end known (f .kind) (f .payload))))

@@ -17,7 +17,7 @@ use Rattle.omnistat.specs.declared.frame.End.{End}
 use Rattle.omnistat.specs.declared.frame.End.the-variants.{Thermostat, Host}
 use Rattle.omnistat.specs.Register.{within, isText, runAllowed}
 use Rattle.omnistat.specs.Frame.{framed, bytesOf, directed, addressOf, sumOf, summed}
-use Rattle.omnistat.specs.Message.{Counted, setFrom, dataFrom, asRun, asMessage}
+use Rattle.omnistat.specs.Message.{Counted, Known, setFrom, dataFrom, asRun, asMessageBy}
 use Rattle.omnistat.specs.Text.{Text, isCharacter, areCharacters, untilEnd, textType, carriesText, ended, readText, textAllowed, textBytes}
 use Rattle.omnistat.specs.Answer.{textIn}
 use Rattle.omnistat.proofs.Laws.Frame.{sumTest}
@@ -363,10 +363,10 @@ unfolding carriesText
 other-type end first second [] n = refl
 other-type end first second (start ∷ s) n = simp (ne-eqb (second % 16) (textType end) n)
 
-pub no-text : (end : End) (first kind : ℕ) (payload : List ℕ) (c : Counted end) → kind < 16 → asMessage end kind payload ≡ accepted c
+pub no-text : (end : End) (known : Known end) (first kind : ℕ) (payload : List ℕ) (c : Counted end) → kind < 16 → asMessageBy end known kind payload ≡ accepted c
     → carriesText end (bytesOf (framed first kind payload)) ≡ false
 unfolding bytesOf
-no-text end first kind payload c k e = go (eqb kind (textType end)) refl
+no-text end known first kind payload c k e = go (eqb kind (textType end)) refl
   where
     second : ℕ
     second = length payload * 16 + kind
@@ -374,13 +374,13 @@ no-text end first kind payload c k e = go (eqb kind (textType end)) refl
     sum : ℕ
     sum = sumOf (first ∷ second ∷ payload)
 
-    run : (end : End) (c : Counted end) → asMessage end kind payload ≡ accepted c → kind ≡ textType end
+    run : (end : End) (known : Known end) (c : Counted end) → asMessageBy end known kind payload ≡ accepted c → kind ≡ textType end
         → carriesText end (first ∷ second ∷ (payload ++ (sum ∷ []))) ≡ false
-    run Thermostat c e t = run-not-text setFrom c second first sum Thermostat payload (sym (names-set kind payload t) ∙ e)
-    run Host c e t = run-not-text dataFrom c second first sum Host payload (sym (names-data kind payload t) ∙ e)
+    run Thermostat known c e t = run-not-text setFrom c second first sum Thermostat payload (sym (names-set kind payload t) ∙ e)
+    run Host known c e t = run-not-text dataFrom c second first sum Host payload (sym (names-data kind payload known t) ∙ e)
 
     go : (t : Bool) → eqb kind (textType end) ≡ t → carriesText end (first ∷ second ∷ (payload ++ (sum ∷ []))) ≡ false
-    go true t = run end c e (eqb-true kind (textType end) t)
+    go true t = run end known c e (eqb-true kind (textType end) t)
     go false t =
         let m : second % 16 ≡ kind = omega arith in
         other-type end first second (payload ++ (sum ∷ [])) (λ z. eqb-false kind (textType end) t (sym m ∙ z))

@@ -15,7 +15,7 @@ use Rattle.answer.proofs.Laws.Test.{same, holds, fails, not-accepted, passed-no
 use Rattle.omnistat.specs.declared.frame.End.the-variants.{Host}
 use Rattle.omnistat.specs.Register.{runAllowed}
 use Rattle.omnistat.specs.Frame.{total}
-use Rattle.omnistat.specs.Message.{acknowledge, negative, dataFrom, group}
+use Rattle.omnistat.specs.Message.{numbered, acknowledge, negative, dataFrom, group}
 use Rattle.omnistat.specs.Omnistat.{Message, counted, text, Addressed, addressed, read}
 use Rattle.omnistat.proofs.Laws.Data.{dataBytes, data-bytes, data-read}
 use Rattle.omnistat.proofs.Laws.Refusals.{read-refusals}
@@ -58,7 +58,7 @@ reading-refused reply n e = by-reader (read Host reply) refl
         → ((read Host reply ≡ refused n) × (n ≤ 8)) ⊎ ((a : Addressed (Message Host)) × (read Host reply ≡ accepted a) × (n ≡ 8))
     by-reader (refused m) r =
         let s = r ∙ ap refused (sym (same-number m n (sym (reading-when reply (refused m) r) ∙ e))) in
-        inl (s, refused-at-most 8 (read Host reply) n (read-refusals Host reply) s)
+        inl (s, refused-at-most 8 (read Host reply) n (read-refusals Host (numbered Host) reply) s)
     by-reader (accepted a) r = inr (a, r, message-refused (a .message) n (sym (reading-when reply (accepted a) r) ∙ e))
 
 -- the word of data: another start or another count has none

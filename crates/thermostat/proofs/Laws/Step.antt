@@ -16,9 +16,9 @@ use Rattle.omnistat.specs.declared.group.Group.the-variants.{First, Second, Thi
 use Rattle.omnistat.specs.declared.frame.End.the-variants.{Thermostat, Host}
 use Rattle.omnistat.specs.Register.{within, isText, runAllowed, pollAllowed}
 use Rattle.omnistat.specs.Frame.{directed, firstOf}
-use Rattle.omnistat.specs.Message.{Reply, poll, setFrom, pollGroup, acknowledge, negative, dataFrom, group, asMessage, bodyOf}
+use Rattle.omnistat.specs.Message.{Reply, numbered, poll, setFrom, pollGroup, acknowledge, negative, dataFrom, group, asMessage, asMessageBy, bodyOf}
 use Rattle.omnistat.specs.Text.{textType, textAllowed}
-use Rattle.omnistat.specs.Omnistat.{Message, counted, text, Addressed, addressedCounted, read, write, writeBytes}
+use Rattle.omnistat.specs.Omnistat.{Message, counted, text, Addressed, addressedCounted, read, write, sent}
 use Rattle.answer.proofs.Laws.Test.{passed-not}
 use Rattle.omnistat.proofs.Laws.Message.{and-parts, within-both}
 use Rattle.omnistat.proofs.Laws.Heard.{message-read}
@@ -46,22 +46,22 @@ abbrev Made : Reply → Type 0
 Made reply = asMessage Host (bodyOf Host reply .kind) (bodyOf Host reply .payload) ≡ accepted reply
 
 pub acknowledge-made : Made acknowledge
-unfolding asMessage
+unfolding asMessageBy
 acknowledge-made = refl
 
 pub negative-made : Made negative
-unfolding asMessage
+unfolding asMessageBy
 negative-made = refl
 
 pub group-made : (m : List ℕ) (g : Group) → Made (group g (contents m (registersOf g)))
-unfolding asMessage
+unfolding asMessageBy
 group-made m First = refl
 group-made m Second = refl
 group-made m Third = refl
 
 data-made : (start : ℕ) (values : List ℕ) → 1 ≤ length values → length values ≤ 14 → runAllowed start (length values) ≡ true
     → Made (dataFrom start values)
-unfolding asMessage
+unfolding asMessageBy
 data-made start values a b r = simp (le-leb 1 (length values) a, le-leb (length values) 14 b, r)
 
 -- what a writer of these bytes answers and leaves
@@ -88,10 +88,10 @@ module _ (own : ℕ) (l : 1 ≤ own) (h : own ≤ 127) where
     sends reply i w out p = (p .0 ∙ ap (λ (o : Outcome (List ℕ)). onAccepted length o) i, p .1 ∙ ap (λ (o : Outcome (List ℕ)). outAfter o old) i)
 
     in-room : 18 ≤ length old → (reply : Reply) → Made reply → inRoom (length old) (write Host own (counted reply)) ≡ accepted (replyBytes own (counted reply))
-    unfolding writeBytes
+    unfolding sent
     in-room b reply e =
         let f : length (replyBytes own (counted reply)) ≤ length old
-        = omega (arith, told Host _ _ reply e .1 .1, bytes-length (firstOf Host own) (bodyOf Host reply .kind) (bodyOf Host reply .payload)) in
+        = omega (arith, told Host (numbered Host) _ _ reply e .1 .1, bytes-length (firstOf Host own) (bodyOf Host reply .kind) (bodyOf Host reply .payload)) in
         simp (e, own-directed) (with-room (length old) (replyBytes own (counted reply)) f)
 
     -- the same of a reply that goes by another name too
@@ -237,17 +237,17 @@ module _ (own first : ℕ) where
 
 module _ (s : List ℕ) (first start : ℕ) where
   pub poll-read : (count : ℕ) → read Thermostat s ≡ accepted (addressedCounted Thermostat first (poll start count)) → pollAllowed start count ≡ true
-  unfolding asMessage
+  unfolding asMessageBy
   poll-read count e =
       let q = poll start count in
-      passed-not (pollAllowed start count) 8 (accepted q) q (message-read Thermostat first q s e .0) .0
+      passed-not (pollAllowed start count) 8 (accepted q) q (message-read Thermostat tt first q s e .0) .0
 
   pub set-read : (values : List ℕ) → read Thermostat s ≡ accepted (addressedCounted Thermostat first (setFrom start values)) → start + length values ≤ 256
-  unfolding asMessage
+  unfolding asMessageBy
   set-read values e =
       let q = setFrom start values in
       let n = length values in
-      let p = passed-not (within 1 14 n) 7 (refuseIf (not (runAllowed start n)) 8 (accepted q)) q (message-read Thermostat first q s e .0) in
+      let p = passed-not (within 1 14 n) 7 (refuseIf (not (runAllowed start n)) 8 (accepted q)) q (message-read Thermostat tt first q s e .0) in
       run-end start n (passed-not (runAllowed start n) 8 (accepted q) q (p .1) .0)
 
 -- ---- the checks of a step

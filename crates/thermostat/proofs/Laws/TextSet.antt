@@ -8,7 +8,7 @@ use lib.ListN.{length, getD}
 use Rattle.answer.specs.Answer.{accepted}
 use Rattle.omnistat.specs.declared.frame.End.the-variants.{Thermostat, Host}
 use Rattle.omnistat.specs.Register.{isText}
-use Rattle.omnistat.specs.Message.{poll}
+use Rattle.omnistat.specs.Message.{numbered, poll}
 use Rattle.omnistat.specs.Text.{Text, areCharacters}
 use Rattle.omnistat.specs.Omnistat.{Message, counted, text, addressed, addressedCounted, read}
 use Rattle.omnistat.proofs.Laws.Message.{within-both}
@@ -22,7 +22,7 @@ use Rattle.thermostat.proofs.Laws.Texts.{text-stored-length, text-store
 module _ (own : ℕ) (m texts s : List ℕ) (room : ℕ) (d : Done) (e : step own m texts s room ≡ accepted d) where
   module _ (first : ℕ) (t : Text) (r : read Thermostat s ≡ accepted (addressed first (text t))) where
     fits : (isText (t .start) ≡ true) × (length (t .characters) ≤ 60) × (areCharacters (t .characters) ≡ true)
-    fits = text-heard Thermostat first t s r
+    fits = text-heard Thermostat tt first t s r
 
     -- nothing of the map
     pub text-set-leaves-the-map : d .map ≡ m
@@ -84,7 +84,7 @@ module _ (own : ℕ) (m texts s : List ℕ) (room : ℕ) (d : Done) (e : step ow
   text-polled-back =
       let p = within-both 1 127 own (lent own m texts s room d e .2) in
       ap (read Host) text-polled
-      ∙ read-after-write Host own (text (textReply texts start)) (replyBytes own (text (textReply texts start)))
+      ∙ read-after-write Host (numbered Host) own (text (textReply texts start)) (replyBytes own (text (textReply texts start)))
       (text-written own (p .0) (p .1) texts start (lent own m texts s room d e .3) t)
 
 -- a polled text is what was set: the characters of a text that a step stored are those that a later step answers with, from that store
@@ -94,5 +94,5 @@ pub polled-text-is-what-was-set : (own : ℕ) (m texts s : List ℕ) (room : ℕ
     → (first₂ count : ℕ) → read Thermostat later ≡ accepted (addressedCounted Thermostat first₂ (poll (t .start) count)) → isFor own first₂ ≡ true → (first₂ ≡ 0 → ⊥)
     → read Host (d₂ .sent) ≡ accepted (addressed own (text (record { half = 0; start = t .start; characters = t .characters })))
 polled-text-is-what-was-set own m texts s room d e first t r f map later room₂ d₂ e₂ first₂ count r₂ f₂ n =
-    text-polled-back own map (d .texts) later room₂ d₂ e₂ first₂ (t .start) count r₂ (text-heard Thermostat first t s r .0) f₂ n
+    text-polled-back own map (d .texts) later room₂ d₂ e₂ first₂ (t .start) count r₂ (text-heard Thermostat tt first t s r .0) f₂ n
     ∙ ap (λ (x : List ℕ). accepted (addressed own (text (record { half = 0; start = t .start; characters = x })))) (text-set-stores own m texts s room d e first t r f .1)

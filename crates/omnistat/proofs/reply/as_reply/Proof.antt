@@ -15,7 +15,7 @@ as-acknowledge-requires c κs = search needs
 returns : tie.Need-returns
 returns c rest =
     let a = c .before .before .before .args in
-    c .as-acknowledge .ensures rest ∙ ap (onAccepted (addressedCounted Host (a .number))) (sym (names-acknowledge (a .kind) (now (a .payload)) (c .before .if1 .taken)))
+    c .as-acknowledge .ensures rest ∙ ap (onAccepted (addressedCounted Host (a .number))) (sym (names-acknowledge (a .kind) (now (a .payload)) (a .habit, a .polled) (c .before .if1 .taken)))
 
 as-negative-requires : tie.Need-as-negative-requires
 as-negative-requires c κs = search needs
@@ -23,7 +23,7 @@ as-negative-requires c κs = search needs
 returns-2 : tie.Need-returns-2
 returns-2 c rest =
     let a = c .before .before .before .before .args in
-    c .as-negative .ensures rest ∙ ap (onAccepted (addressedCounted Host (a .number))) (sym (names-negative (a .kind) (now (a .payload)) (c .before .if2 .taken)))
+    c .as-negative .ensures rest ∙ ap (onAccepted (addressedCounted Host (a .number))) (sym (names-negative (a .kind) (now (a .payload)) (a .habit, a .polled) (c .before .if2 .taken)))
 
 as-data-requires : tie.Need-as-data-requires
 as-data-requires c κs = search needs
@@ -31,7 +31,7 @@ as-data-requires c κs = search needs
 returns-3 : tie.Need-returns-3
 returns-3 c rest =
     let a = c .before .before .before .before .before .args in
-    c .as-data .ensures rest ∙ ap (onAccepted (addressedCounted Host (a .number))) (sym (names-data (a .kind) (now (a .payload)) (c .before .if3 .taken)))
+    c .as-data .ensures rest ∙ ap (onAccepted (addressedCounted Host (a .number))) (sym (names-data (a .kind) (now (a .payload)) (a .habit, a .polled) (c .before .if3 .taken)))
 
 replied-requires : tie.Need-replied-requires
 replied-requires c κs = search needs
@@ -51,7 +51,7 @@ returns-4 c rest =
     c .as-group .ensures rest
     ∙ ap (onAccepted (addressedCounted Host (a .number)))
     (sym
-    (names-group (a .kind) (now (a .payload)) (c .before .before .before .before .before .before .before .if1 .left) (c .before .before .before .before .before .before .if2 .left) (c .before .before .before .before .before .if3 .left) _
+    (names-group (a .kind) (now (a .payload)) (a .habit, a .polled) (c .before .before .before .before .before .before .before .if1 .left) (c .before .before .before .before .before .before .if2 .left) (c .before .before .before .before .before .if3 .left) _
     (ap namedOf (sym (c .before .before .group .given .1)) ∙ c .before .before .before .before .replied .ensures)))
 
 returns-5 : tie.Need-returns-5
@@ -59,7 +59,7 @@ returns-5 c rest =
     let a = c .before .before .before .before .before .before .before .args in
     ap (onAccepted (addressedCounted Host (a .number)))
     (sym
-    (names-group (a .kind) (now (a .payload)) (c .before .before .before .before .before .if1 .left) (c .before .before .before .before .if2 .left) (c .before .before .before .if3 .left) _
+    (names-group (a .kind) (now (a .payload)) (a .habit, a .polled) (c .before .before .before .before .before .if1 .left) (c .before .before .before .before .if2 .left) (c .before .before .before .if3 .left) _
     (ap namedOf (sym (c .enum-told .given .1)) ∙ c .before .before .replied .ensures)))
 
 pub as-reply-spec : {M : Type 1} → statement M

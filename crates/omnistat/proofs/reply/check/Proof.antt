@@ -18,7 +18,7 @@ returns : tie.Need-returns
 returns c =
     let a = c .before .before .before .args in
     let d = now (a .payload) in
-    c .check-length .ensures ∙ length-checked 0 d acknowledge ∙ ap (onAccepted passed) (sym (names-acknowledge (a .kind) d (c .before .if1 .taken)))
+    c .check-length .ensures ∙ length-checked 0 d acknowledge ∙ ap (onAccepted passed) (sym (names-acknowledge (a .kind) d (a .habit, a .polled) (c .before .if1 .taken)))
 
 check-length-requires-2 : tie.Need-check-length-requires-2
 check-length-requires-2 c κs = search needs
@@ -27,7 +27,7 @@ returns-2 : tie.Need-returns-2
 returns-2 c =
     let a = c .before .before .before .before .args in
     let d = now (a .payload) in
-    c .check-length2 .ensures ∙ length-checked 0 d negative ∙ ap (onAccepted passed) (sym (names-negative (a .kind) d (c .before .if2 .taken)))
+    c .check-length2 .ensures ∙ length-checked 0 d negative ∙ ap (onAccepted passed) (sym (names-negative (a .kind) d (a .habit, a .polled) (c .before .if2 .taken)))
 
 check-run-in-requires : tie.Need-check-run-in-requires
 check-run-in-requires c κs = search needs
@@ -36,7 +36,7 @@ returns-3 : tie.Need-returns-3
 returns-3 c =
     let a = c .before .before .before .before .before .args in
     let d = now (a .payload) in
-    c .check-run-in .ensures ∙ sym (run-natural passed dataFrom d) ∙ ap (onAccepted passed) (sym (names-data (a .kind) d (c .before .if3 .taken)))
+    c .check-run-in .ensures ∙ sym (run-natural passed dataFrom d) ∙ ap (onAccepted passed) (sym (names-data (a .kind) d (a .habit, a .polled) (c .before .if3 .taken)))
 
 replied-requires : tie.Need-replied-requires
 replied-requires c κs = search needs
@@ -66,14 +66,14 @@ returns-4 c =
     ∙ ap (λ (n : ℕ). lengthChecked n d) (c .before .reply-length .ensures)
     ∙ length-checked (replyLength g) d (group g d)
     ∙ ap (onAccepted passed)
-    (sym (names-group (a .kind) d (c .before .before .before .before .before .before .before .before .if1 .left) (c .before .before .before .before .before .before .before .if2 .left) (c .before .before .before .before .before .before .if3 .left) _ named))
+    (sym (names-group (a .kind) d (a .habit, a .polled) (c .before .before .before .before .before .before .before .before .if1 .left) (c .before .before .before .before .before .before .before .if2 .left) (c .before .before .before .before .before .before .if3 .left) _ named))
 
 returns-5 : tie.Need-returns-5
 returns-5 c =
     let a = c .before .before .before .before .before .before .before .args in
     ap (onAccepted passed)
     (sym
-    (names-group (a .kind) (now (a .payload)) (c .before .before .before .before .before .if1 .left) (c .before .before .before .before .if2 .left) (c .before .before .before .if3 .left) _
+    (names-group (a .kind) (now (a .payload)) (a .habit, a .polled) (c .before .before .before .before .before .if1 .left) (c .before .before .before .before .if2 .left) (c .before .before .before .if3 .left) _
     (ap namedOf (sym (c .enum-told .given .1)) ∙ c .before .before .replied .ensures)))
 
 pub check-spec : {M : Type 1} → statement M

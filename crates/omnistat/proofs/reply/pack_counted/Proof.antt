@@ -7,17 +7,17 @@ use Rattle.answer.specs.Answer.{Outcome, onAccepted, numberOf}
 use Rattle.answer.specs.Packed.{packed}
 use Rattle.omnistat.specs.declared.frame.End.the-variants.{Host}
 use Rattle.omnistat.specs.Frame.{Frame, addressOf}
-use Rattle.omnistat.specs.Message.{asMessage}
+use Rattle.omnistat.specs.Message.{Known, asMessageBy}
 use Rattle.omnistat.specs.Omnistat.{Message, Addressed, addressedCounted}
-use Rattle.omnistat.specs.Answer.{fields}
+use Rattle.omnistat.specs.Answer.{fieldsBy}
 use Rattle.omnistat.specs.Parts.{framedIn}
 use Rattle.omnistat.proofs.Laws.Omnistat.{counted-refused, counted-whole, from-host}
 use borrow.Author.Needs.{needs}
 use Rattle.omnistat.proofs.reply.pack_counted.Statement.{statement}
 use Rattle.omnistat.proofs.reply.pack_counted.Tie as tie
 
-abbrev packedAs : Outcome (Addressed (Message Host)) → ℕ
-packedAs o = packed (onAccepted (fields Host) o)
+abbrev packedAs : Known Host → Outcome (Addressed (Message Host)) → ℕ
+packedAs known o = packed (onAccepted (fieldsBy Host known) o)
 
 read-requires : tie.Need-read-requires
 read-requires c κs = search needs
@@ -49,21 +49,23 @@ pack-requires c κs = search needs
 
 returns : tie.Need-returns
 returns c =
-    let s = now (c .before .before .before .before .before .before .args .bytes) in
+    let a = c .before .before .before .before .before .before .args in
+    let s = now (a .bytes) in
     c .pack-refusal .ensures
-    ∙ ap packedAs
+    ∙ ap (packedAs (a .habit, a .polled))
     (sym
-    (counted-refused Host s (numberOf (c .before .before .r .given .0 .0))
+    (counted-refused Host (a .habit, a .polled) s (numberOf (c .before .before .r .given .0 .0))
     (ap (framedIn s) (sym (c .before .before .r .given .1)) ∙ c .before .before .before .before .read .ensures)))
 
 returns-2 : tie.Need-returns-2
 returns-2 c =
-    let s = now (c .before .before .before .before .before .before .before .args .bytes) in
+    let a = c .before .before .before .before .before .before .before .args in
+    let s = now (a .bytes) in
     let w = c .before .before .before .first .given in
     let f : Frame = record { first = w .0 .0; kind = w .0 .1 .0; payload = take (w .0 .1 .1 .0) (drop 2 s) } in
     c .pack .ensures
-    ∙ ap (λ (d : List ℕ). packedAs (onAccepted (addressedCounted Host (addressOf Host (f .first))) (asMessage Host (f .kind) d))) (c .before .part .ensures)
-    ∙ ap packedAs (sym (counted-whole Host s f (ap (framedIn s) (sym (w .1)) ∙ c .before .before .before .before .before .read .ensures)))
+    ∙ ap (λ (d : List ℕ). packedAs (a .habit, a .polled) (onAccepted (addressedCounted Host (addressOf Host (f .first))) (asMessageBy Host (a .habit, a .polled) (f .kind) d))) (c .before .part .ensures)
+    ∙ ap (packedAs (a .habit, a .polled)) (sym (counted-whole Host (a .habit, a .polled) s f (ap (framedIn s) (sym (w .1)) ∙ c .before .before .before .before .before .read .ensures)))
 
 pub pack-counted-spec : {M : Type 1} → statement M
 pack-counted-spec =

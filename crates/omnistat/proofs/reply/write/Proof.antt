@@ -1,23 +1,20 @@
 use mathlib.Core.Path.{_≡_, sym, ap, _∙_}
-use Prim.Native.Nat.{_+_}
-use native.Mathlib.Omega.{arith}
-use borrow.Author.Tests.{not-true, not-false}
 use denote.Ref.{now}
 use Rattle.answer.specs.Answer.{accepted, onAccepted, numberOf}
 use Rattle.omnistat.specs.declared.frame.End.the-variants.{Host}
-use Rattle.omnistat.specs.Message.{asMessage}
-use Rattle.omnistat.specs.Omnistat.{writeBytes}
+use Rattle.omnistat.specs.Message.{Known, asMessageBy}
+use Rattle.omnistat.specs.Omnistat.{writeBytesBy}
 use Rattle.omnistat.specs.Parts.{passed, checkOf}
-use Rattle.omnistat.proofs.Laws.Omnistat.{write-refused, frame-fits, write-misaddressed, write-summed}
+use Rattle.omnistat.proofs.Laws.Omnistat.{write-refused, frame-fits, write-checked}
 use Rattle.omnistat.proofs.Laws.Output.{leaves-refused, leaves-same}
-use Rattle.omnistat.proofs.Laws.Message.{within-both}
 use borrow.Author.Needs.{needs}
 use Rattle.omnistat.proofs.reply.write.Statement.{statement}
 use Rattle.omnistat.proofs.reply.write.Tie as tie
 
 -- the type and the data bytes passed their checks
 went-on : (c : tie.After-enum-told)
-    → accepted tt ≡ onAccepted passed (asMessage Host (c .before .before .before .before .before .args .kind) (now (c .before .before .before .before .before .args .payload)))
+    → let a = c .before .before .before .before .before .args in
+    accepted tt ≡ onAccepted passed (asMessageBy Host (a .habit, a .polled) (a .kind) (now (a .payload)))
 went-on c = ap checkOf (sym (c .enum-told .given .1)) ∙ c .before .before .check .ensures
 
 check-requires : tie.Need-check-requires
@@ -29,44 +26,30 @@ enum-known-r c = search needs
 enum-told : tie.Need-enum-told
 enum-told c = search needs
 
-is-number-requires : tie.Need-is-number-requires
-is-number-requires c κs = search needs
+write-checked-requires : tie.Need-write-checked-requires
+write-checked-requires c κs =
+    let a = c .before .before .before .before .before .before .args in
+    frame-fits Host (a .habit, a .polled) (a .number) (a .kind) (now (a .payload)) (went-on (c .before))
 
 returns : tie.Need-returns
 returns c =
-    let a = c .before .before .before .before .before .before .before .args in
-    leaves-refused (now (a .out)) (writeBytes Host (a .number) (a .kind) (now (a .payload))) 8
-    (write-misaddressed Host (a .number) (a .kind) (now (a .payload)) (went-on (c .before .before)) (sym (c .before .is-number .ensures) ∙ not-true _ (c .if1 .taken)))
-
-length-and-type-requires : tie.Need-length-and-type-requires
-length-and-type-requires c κs =
-    let a = c .before .before .before .before .before .before .before .args in
-    frame-fits Host (a .number) (a .kind) (now (a .payload)) (went-on (c .before .before))
-
-add-write : tie.Need-add-write
-add-write c =
-    omega (arith, within-both 129 255 (c .before .before .before .before .before .before .before .before .args .number + 128) (sym (c .before .before .is-number .ensures) ∙ not-false _ (c .before .if1 .left)) .1)
-
-write-requires : tie.Need-write-requires
-write-requires c κs = search needs
-
-returns-2 : tie.Need-returns-2
-returns-2 c =
     let a = c .before .before .before .before .before .before .args in
-    leaves-refused (now (a .out)) (writeBytes Host (a .number) (a .kind) (now (a .payload))) (numberOf (c .before .r .given .0 .0))
-    (write-refused Host (a .number) (a .kind) (now (a .payload)) (numberOf (c .before .r .given .0 .0))
+    let known : Known Host = (a .habit, a .polled) in
+    leaves-refused (now (a .out)) (writeBytesBy Host known (a .number) (a .kind) (now (a .payload))) (numberOf (c .before .r .given .0 .0))
+    (write-refused Host known (a .number) (a .kind) (now (a .payload)) (numberOf (c .before .r .given .0 .0))
     (ap checkOf (sym (c .before .r .given .1)) ∙ c .before .before .before .check .ensures))
 
 same-length : tie.Need-same-length
 same-length c = search needs
 
-returns-3 : tie.Need-returns-3
-returns-3 c =
-    let a = c .before .before .before .before .before .before .before .before .before .before .before .before .args in
-    leaves-same (now (a .out)) (writeBytes Host (a .number) (a .kind) (now (a .payload))) _ _ _
-    (write-summed Host (a .number) (a .kind) (now (a .payload)) (went-on (c .before .before .before .before .before .before .before))
-    (sym (c .before .before .before .before .before .before .is-number .ensures) ∙ not-false _ (c .before .before .before .before .before .if1 .left)) (c .before .before .before .before .length-and-type .result) (c .before .before .before .before .length-and-type .ensures))
-    (c .before .before .write .ensures)
+returns-2 : tie.Need-returns-2
+returns-2 c =
+    let checked = c .before .before .before .before in
+    let a = checked .before .before .before .before .before .args in
+    let known : Known Host = (a .habit, a .polled) in
+    leaves-same (now (a .out)) (writeBytesBy Host known (a .number) (a .kind) (now (a .payload))) _ _ _
+    (write-checked Host known (a .number) (a .kind) (now (a .payload)) (went-on checked))
+    (c .before .before .write-checked .ensures)
 
 pub write-spec : {M : Type 1} → statement M
 write-spec =
@@ -75,11 +58,7 @@ write-spec =
     check-requires
     enum-known-r
     enum-told
-    is-number-requires
+    write-checked-requires
     returns
-    length-and-type-requires
-    add-write
-    write-requires
-    returns-2
     same-length
-    returns-3)
+    returns-2)

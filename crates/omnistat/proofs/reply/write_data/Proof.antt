@@ -7,7 +7,7 @@ use denote.Ref.{now}
 use lib.ListN.{length}
 use Rattle.answer.specs.Answer.{accepted, onAccepted, numberOf}
 use Rattle.omnistat.specs.declared.frame.End.the-variants.{Host}
-use Rattle.omnistat.specs.Message.{asMessage}
+use Rattle.omnistat.specs.Message.{numbered, asMessage}
 use Rattle.omnistat.specs.Omnistat.{writeBytes}
 use Rattle.omnistat.specs.Parts.{passed, checkOf}
 use Rattle.omnistat.proofs.Laws.Check.{data-checked}
@@ -40,7 +40,7 @@ returns : tie.Need-returns
 returns c =
     let a = c .before .before .before .before .before .before .before .args in
     leaves-refused (now (a .out)) (writeBytes Host (a .number) 2 (a .start ∷ now (a .values))) 8
-    (write-misaddressed Host (a .number) 2 (a .start ∷ now (a .values)) (went-on (c .before .before)) (sym (c .before .is-number .ensures) ∙ not-true _ (c .if1 .taken)))
+    (write-misaddressed Host (numbered Host) (a .number) 2 (a .start ∷ now (a .values)) (went-on (c .before .before)) (sym (c .before .is-number .ensures) ∙ not-true _ (c .if1 .taken)))
 
 add-length-and-type : tie.Need-add-length-and-type
 add-length-and-type c = search needs
@@ -48,7 +48,7 @@ add-length-and-type c = search needs
 length-and-type-requires : tie.Need-length-and-type-requires
 length-and-type-requires c κs =
     let a = c .before .before .before .before .before .before .before .args in
-    let fits = frame-fits Host (a .number) 2 (a .start ∷ now (a .values)) (went-on (c .before .before)) in
+    let fits = frame-fits Host (numbered Host) (a .number) 2 (a .start ∷ now (a .values)) (went-on (c .before .before)) in
     (fits .0, omega (arith, fits .1))
 
 add-write-run : tie.Need-add-write-run
@@ -62,7 +62,7 @@ returns-2 : tie.Need-returns-2
 returns-2 c =
     let a = c .before .before .before .before .before .before .args in
     leaves-refused (now (a .out)) (writeBytes Host (a .number) 2 (a .start ∷ now (a .values))) (numberOf (c .before .r .given .0 .0))
-    (write-refused Host (a .number) 2 (a .start ∷ now (a .values)) (numberOf (c .before .r .given .0 .0))
+    (write-refused Host (numbered Host) (a .number) 2 (a .start ∷ now (a .values)) (numberOf (c .before .r .given .0 .0))
     (ap checkOf (sym (c .before .r .given .1)) ∙ c .before .before .before .check-run .ensures ∙ data-checked (a .start ∷ now (a .values))))
 
 same-length : tie.Need-same-length
@@ -73,7 +73,7 @@ returns-3 c =
     let a = c .before .before .before .before .before .before .before .before .before .before .before .before .args in
     let second : c .before .before .before .before .length-and-type .result ≡ length (a .start ∷ now (a .values)) * 16 + 2 = omega (arith, c .before .before .before .before .length-and-type .ensures) in
     leaves-same (now (a .out)) (writeBytes Host (a .number) 2 (a .start ∷ now (a .values))) _ _ _
-    (write-summed Host (a .number) 2 (a .start ∷ now (a .values)) (went-on (c .before .before .before .before .before .before .before))
+    (write-summed Host (numbered Host) (a .number) 2 (a .start ∷ now (a .values)) (went-on (c .before .before .before .before .before .before .before))
     (sym (c .before .before .before .before .before .before .is-number .ensures) ∙ not-false _ (c .before .before .before .before .before .if1 .left)) (c .before .before .before .before .length-and-type .result) second)
     (c .before .before .write-run .ensures)
 

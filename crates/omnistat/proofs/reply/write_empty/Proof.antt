@@ -5,6 +5,7 @@ use native.Mathlib.Omega.{arith}
 use borrow.Author.Tests.{not-true, not-false}
 use denote.Ref.{now}
 use Rattle.omnistat.specs.declared.frame.End.the-variants.{Host}
+use Rattle.omnistat.specs.Message.{numbered}
 use Rattle.omnistat.specs.Omnistat.{writeBytes}
 use Rattle.omnistat.proofs.Laws.Check.{empty-checked}
 use Rattle.omnistat.proofs.Laws.Message.{within-both}
@@ -21,7 +22,7 @@ returns : tie.Need-returns
 returns c =
     let a = c .before .before .before .args in
     leaves-refused (now (a .out)) (writeBytes Host (a .number) (a .kind) []) 8
-    (write-misaddressed Host (a .number) (a .kind) [] (empty-checked (a .kind) (c .before .before .before .pre)) (sym (c .before .is-number .ensures) ∙ not-true _ (c .if1 .taken)))
+    (write-misaddressed Host (numbered Host) (a .number) (a .kind) [] (empty-checked (a .kind) (c .before .before .before .pre)) (sym (c .before .is-number .ensures) ∙ not-true _ (c .if1 .taken)))
 
 add-write : tie.Need-add-write
 add-write c =
@@ -45,7 +46,7 @@ returns-2 c =
     let a = start .args in
     let second : a .kind ≡ 0 * 16 + a .kind = omega arith in
     leaves-same (now (a .out)) (writeBytes Host (a .number) (a .kind) []) _ _ _
-    (write-summed Host (a .number) (a .kind) [] (empty-checked (a .kind) (start .pre))
+    (write-summed Host (numbered Host) (a .number) (a .kind) [] (empty-checked (a .kind) (start .pre))
     (sym (c .before .before .before .before .before .before .is-number .ensures) ∙ not-false _ (c .before .before .before .before .before .if1 .left)) (a .kind) second)
     (c .before .before .write .ensures)
 

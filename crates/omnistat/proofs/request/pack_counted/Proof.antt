@@ -46,7 +46,7 @@ returns c =
     c .pack-refusal .ensures
     ∙ ap packedAs
     (sym
-    (counted-refused Thermostat s (numberOf (c .before .before .r .given .0 .0))
+    (counted-refused Thermostat tt s (numberOf (c .before .before .r .given .0 .0))
     (ap (framedIn s) (sym (c .before .before .r .given .1)) ∙ c .before .before .before .before .read .ensures)))
 
 returns-2 : tie.Need-returns-2
@@ -56,7 +56,7 @@ returns-2 c =
     let f : Frame = record { first = w .0 .0; kind = w .0 .1 .0; payload = take (w .0 .1 .1 .0) (drop 2 s) } in
     c .pack .ensures
     ∙ ap (λ (d : List ℕ). packedAs (onAccepted (addressedCounted Thermostat (addressOf Thermostat (f .first))) (asMessage Thermostat (f .kind) d))) (c .before .part .ensures)
-    ∙ ap packedAs (sym (counted-whole Thermostat s f (ap (framedIn s) (sym (w .1)) ∙ c .before .before .before .before .before .read .ensures)))
+    ∙ ap packedAs (sym (counted-whole Thermostat tt s f (ap (framedIn s) (sym (w .1)) ∙ c .before .before .before .before .before .read .ensures)))
 
 pub pack-counted-spec : {M : Type 1} → statement M
 pack-counted-spec =

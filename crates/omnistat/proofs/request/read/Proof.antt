@@ -16,7 +16,7 @@ read-text-requires c κs = at-least-three Thermostat (now (c .before .before .be
 returns : tie.Need-returns
 returns c =
     let test = c .before in
-    c .read-text .ensures ∙ sym (read-text Thermostat (now (test .before .before .before .args .bytes)) (sym (test .before .carries-text .ensures) ∙ test .if1 .taken))
+    c .read-text .ensures ∙ sym (read-text Thermostat tt (now (test .before .before .before .args .bytes)) (sym (test .before .carries-text .ensures) ∙ test .if1 .taken))
 
 read-counted-requires : tie.Need-read-counted-requires
 read-counted-requires c κs = search needs
@@ -24,7 +24,7 @@ read-counted-requires c κs = search needs
 returns-2 : tie.Need-returns-2
 returns-2 c =
     let test = c .before in
-    c .read-counted .ensures ∙ sym (read-counted Thermostat (now (test .before .before .before .args .bytes)) (sym (test .before .carries-text .ensures) ∙ test .if1 .left))
+    c .read-counted .ensures ∙ sym (read-counted Thermostat tt (now (test .before .before .before .args .bytes)) (sym (test .before .carries-text .ensures) ∙ test .if1 .left))
 
 pub read-spec : {M : Type 1} → statement M
 read-spec =

@@ -37,7 +37,7 @@ returns : tie.Need-returns
 returns c =
     let s = now (c .before .before .before .before .before .args .bytes) in
     sym
-    (counted-refused Thermostat s (numberOf (c .before .r .given .0 .0))
+    (counted-refused Thermostat tt s (numberOf (c .before .r .given .0 .0))
     (ap (framedIn s) (sym (c .before .r .given .1)) ∙ c .before .before .before .read .ensures))
 
 returns-2 : tie.Need-returns-2
@@ -47,7 +47,7 @@ returns-2 c =
     let f : Frame = record { first = w .0 .0; kind = w .0 .1 .0; payload = take (w .0 .1 .1 .0) (drop 2 s) } in
     request-in s _ (w .0 .1 .1 .0) (c .before .part .ensures) (c .as-request .result) _ (c .as-request .ensures)
     ∙ ap (λ (d : List ℕ). onAccepted (addressedCounted Thermostat (addressOf Thermostat (f .first))) (asMessage Thermostat (f .kind) d)) (c .before .part .ensures)
-    ∙ sym (counted-whole Thermostat s f (ap (framedIn s) (sym (w .1)) ∙ c .before .before .before .before .before .read .ensures))
+    ∙ sym (counted-whole Thermostat tt s f (ap (framedIn s) (sym (w .1)) ∙ c .before .before .before .before .before .read .ensures))
 
 pub read-counted-spec : {M : Type 1} → statement M
 read-counted-spec =

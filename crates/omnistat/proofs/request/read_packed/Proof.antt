@@ -26,7 +26,7 @@ returns c =
     c .pack .ensures
     ∙ ap packed (sym (in-one (addressedText Thermostat) (fields Thermostat) (readText Thermostat s)))
     ∙ ap (λ (o : Outcome (Addressed (Message Thermostat))). packed (onAccepted (fields Thermostat) o))
-    (sym (read-text Thermostat s (sym (test .before .carries-text .ensures) ∙ test .if1 .taken)))
+    (sym (read-text Thermostat tt s (sym (test .before .carries-text .ensures) ∙ test .if1 .taken)))
 
 pack-counted-requires : tie.Need-pack-counted-requires
 pack-counted-requires c κs = search needs
@@ -37,7 +37,7 @@ returns-2 c =
     let s = now (test .before .before .before .args .bytes) in
     c .pack-counted .ensures
     ∙ ap (λ (o : Outcome (Addressed (Message Thermostat))). packed (onAccepted (fields Thermostat) o))
-    (sym (read-counted Thermostat s (sym (test .before .carries-text .ensures) ∙ test .if1 .left)))
+    (sym (read-counted Thermostat tt s (sym (test .before .carries-text .ensures) ∙ test .if1 .left)))
 
 pub read-packed-spec : {M : Type 1} → statement M
 read-packed-spec =

@@ -33,12 +33,12 @@ returns : tie.Need-returns
 returns c =
     let a = c .before .before .before .before .before .before .before .args in
     leaves-refused (now (a .out)) (writeBytes Thermostat (a .address) (a .kind) (now (a .payload))) 8
-    (write-misaddressed Thermostat (a .address) (a .kind) (now (a .payload)) (went-on (c .before .before)) (sym (c .before .is-to-thermostat .ensures) ∙ not-true _ (c .if1 .taken)))
+    (write-misaddressed Thermostat tt (a .address) (a .kind) (now (a .payload)) (went-on (c .before .before)) (sym (c .before .is-to-thermostat .ensures) ∙ not-true _ (c .if1 .taken)))
 
 length-and-type-requires : tie.Need-length-and-type-requires
 length-and-type-requires c κs =
     let a = c .before .before .before .before .before .before .before .args in
-    frame-fits Thermostat (a .address) (a .kind) (now (a .payload)) (went-on (c .before .before))
+    frame-fits Thermostat tt (a .address) (a .kind) (now (a .payload)) (went-on (c .before .before))
 
 write-requires : tie.Need-write-requires
 write-requires c κs = search needs
@@ -47,7 +47,7 @@ returns-2 : tie.Need-returns-2
 returns-2 c =
     let a = c .before .before .before .before .before .before .args in
     leaves-refused (now (a .out)) (writeBytes Thermostat (a .address) (a .kind) (now (a .payload))) (numberOf (c .before .r .given .0 .0))
-    (write-refused Thermostat (a .address) (a .kind) (now (a .payload)) (numberOf (c .before .r .given .0 .0))
+    (write-refused Thermostat tt (a .address) (a .kind) (now (a .payload)) (numberOf (c .before .r .given .0 .0))
     (ap checkOf (sym (c .before .r .given .1)) ∙ c .before .before .before .check .ensures))
 
 same-length : tie.Need-same-length
@@ -57,7 +57,7 @@ returns-3 : tie.Need-returns-3
 returns-3 c =
     let a = c .before .before .before .before .before .before .before .before .before .before .before .before .args in
     leaves-same (now (a .out)) (writeBytes Thermostat (a .address) (a .kind) (now (a .payload))) _ _ _
-    (write-summed Thermostat (a .address) (a .kind) (now (a .payload)) (went-on (c .before .before .before .before .before .before .before))
+    (write-summed Thermostat tt (a .address) (a .kind) (now (a .payload)) (went-on (c .before .before .before .before .before .before .before))
     (sym (c .before .before .before .before .before .before .is-to-thermostat .ensures) ∙ not-false _ (c .before .before .before .before .before .if1 .left)) (c .before .before .before .before .length-and-type .result) (c .before .before .before .before .length-and-type .ensures))
     (c .before .before .write .ensures)
 

@@ -39,7 +39,7 @@ returns : tie.Need-returns
 returns c =
     let a = c .before .before .before .before .before .before .before .args in
     leaves-refused (now (a .out)) (writeBytes Thermostat (a .address) 1 (a .start ∷ now (a .values))) 8
-    (write-misaddressed Thermostat (a .address) 1 (a .start ∷ now (a .values)) (went-on (c .before .before)) (sym (c .before .is-to-thermostat .ensures) ∙ not-true _ (c .if1 .taken)))
+    (write-misaddressed Thermostat tt (a .address) 1 (a .start ∷ now (a .values)) (went-on (c .before .before)) (sym (c .before .is-to-thermostat .ensures) ∙ not-true _ (c .if1 .taken)))
 
 add-length-and-type : tie.Need-add-length-and-type
 add-length-and-type c = search needs
@@ -47,7 +47,7 @@ add-length-and-type c = search needs
 length-and-type-requires : tie.Need-length-and-type-requires
 length-and-type-requires c κs =
     let a = c .before .before .before .before .before .before .before .args in
-    let fits = frame-fits Thermostat (a .address) 1 (a .start ∷ now (a .values)) (went-on (c .before .before)) in
+    let fits = frame-fits Thermostat tt (a .address) 1 (a .start ∷ now (a .values)) (went-on (c .before .before)) in
     (fits .0, omega (arith, fits .1))
 
 write-run-requires : tie.Need-write-run-requires
@@ -57,7 +57,7 @@ returns-2 : tie.Need-returns-2
 returns-2 c =
     let a = c .before .before .before .before .before .before .args in
     leaves-refused (now (a .out)) (writeBytes Thermostat (a .address) 1 (a .start ∷ now (a .values))) (numberOf (c .before .r .given .0 .0))
-    (write-refused Thermostat (a .address) 1 (a .start ∷ now (a .values)) (numberOf (c .before .r .given .0 .0))
+    (write-refused Thermostat tt (a .address) 1 (a .start ∷ now (a .values)) (numberOf (c .before .r .given .0 .0))
     (ap checkOf (sym (c .before .r .given .1)) ∙ c .before .before .before .check-run .ensures ∙ set-checked (a .start ∷ now (a .values))))
 
 same-length : tie.Need-same-length
@@ -68,7 +68,7 @@ returns-3 c =
     let a = c .before .before .before .before .before .before .before .before .before .before .before .before .args in
     let second : c .before .before .before .before .length-and-type .result ≡ length (a .start ∷ now (a .values)) * 16 + 1 = omega (arith, c .before .before .before .before .length-and-type .ensures) in
     leaves-same (now (a .out)) (writeBytes Thermostat (a .address) 1 (a .start ∷ now (a .values))) _ _ _
-    (write-summed Thermostat (a .address) 1 (a .start ∷ now (a .values)) (went-on (c .before .before .before .before .before .before .before))
+    (write-summed Thermostat tt (a .address) 1 (a .start ∷ now (a .values)) (went-on (c .before .before .before .before .before .before .before))
     (sym (c .before .before .before .before .before .before .is-to-thermostat .ensures) ∙ not-false _ (c .before .before .before .before .before .if1 .left)) (c .before .before .before .before .length-and-type .result) second)
     (c .before .before .write-run .ensures)
 

@@ -76,7 +76,7 @@ on-text-requires c κs =
     sym (at .read .ensures)
     ∙ ap (requestIn s) (given .1)
     ∙ ap (λ (x : List ℕ). accepted (addressed (given .0 .0) (text (record { half = given .0 .1 .0; start = given .0 .1 .1 .0; characters = x })))) (sym (c .before .values2 .ensures)) in
-    let t = text-heard Thermostat (given .0 .0) (record { half = given .0 .1 .0; start = given .0 .1 .1 .0; characters = c .before .values2 .result .now }) s e in
+    let t = text-heard Thermostat tt (given .0 .0) (record { half = given .0 .1 .0; start = given .0 .1 .1 .0; characters = c .before .values2 .result .now }) s e in
     let p = start .pre in
     (p .0, (omega (arith, p .1 .0), (p .1 .1 .1 .0, (t .0, t .1))))
 

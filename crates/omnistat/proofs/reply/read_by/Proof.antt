@@ -4,8 +4,8 @@ use Rattle.omnistat.specs.declared.frame.End.the-variants.{Host}
 use Rattle.omnistat.proofs.Laws.Omnistat.{read-counted, read-text}
 use Rattle.omnistat.proofs.Laws.Text.{at-least-three}
 use borrow.Author.Needs.{needs}
-use Rattle.omnistat.proofs.reply.read.Statement.{statement}
-use Rattle.omnistat.proofs.reply.read.Tie as tie
+use Rattle.omnistat.proofs.reply.read_by.Statement.{statement}
+use Rattle.omnistat.proofs.reply.read_by.Tie as tie
 
 carries-text-requires : tie.Need-carries-text-requires
 carries-text-requires c κs = search needs
@@ -16,7 +16,8 @@ read-text-requires c κs = at-least-three Host (now (c .before .before .before .
 returns : tie.Need-returns
 returns c =
     let test = c .before in
-    c .read-text .ensures ∙ sym (read-text Host (now (test .before .before .before .args .bytes)) (sym (test .before .carries-text .ensures) ∙ test .if1 .taken))
+    let a = test .before .before .before .args in
+    c .read-text .ensures ∙ sym (read-text Host (a .habit, a .polled) (now (a .bytes)) (sym (test .before .carries-text .ensures) ∙ test .if1 .taken))
 
 read-counted-requires : tie.Need-read-counted-requires
 read-counted-requires c κs = search needs
@@ -24,9 +25,10 @@ read-counted-requires c κs = search needs
 returns-2 : tie.Need-returns-2
 returns-2 c =
     let test = c .before in
-    c .read-counted .ensures ∙ sym (read-counted Host (now (test .before .before .before .args .bytes)) (sym (test .before .carries-text .ensures) ∙ test .if1 .left))
+    let a = test .before .before .before .args in
+    c .read-counted .ensures ∙ sym (read-counted Host (a .habit, a .polled) (now (a .bytes)) (sym (test .before .carries-text .ensures) ∙ test .if1 .left))
 
-pub read-spec : {M : Type 1} → statement M
-read-spec =
+pub read-by-spec : {M : Type 1} → statement M
+read-by-spec =
     tie.close
     (tie.spec carries-text-requires read-text-requires returns read-counted-requires returns-2)
