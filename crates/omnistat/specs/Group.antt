@@ -28,13 +28,17 @@ replyLength First = 6
 replyLength Second = 6
 replyLength Third = 10
 
+-- the group that has this value, else a refusal
+abbrev pub groupBy : (n : ℕ) → (Group → ℕ) → ℕ → Outcome Group
+groupBy n valueOf value =
+    cond (eqb value (valueOf First)) (accepted First)
+    (cond (eqb value (valueOf Second)) (accepted Second)
+    (cond (eqb value (valueOf Third)) (accepted Third)
+    (refused n)))
+
 -- the group whose message has this type; every other type is 6
 abbrev pub groupOf : (Group → ℕ) → ℕ → Outcome Group
-groupOf type kind =
-    cond (eqb kind (type First)) (accepted First)
-    (cond (eqb kind (type Second)) (accepted Second)
-    (cond (eqb kind (type Third)) (accepted Third)
-    (refused 6)))
+groupOf type kind = groupBy 6 type kind
 
 -- the group that a reply of this type carries, with a habit and the group last polled: by number, the one whose type it is; as printed, the
 -- one that was polled
@@ -54,11 +58,7 @@ groupNumber Third = 3
 
 -- the group with a number
 abbrev pub groupAt : ℕ → Outcome Group
-groupAt n =
-    cond (eqb n (groupNumber First)) (accepted First)
-    (cond (eqb n (groupNumber Second)) (accepted Second)
-    (cond (eqb n (groupNumber Third)) (accepted Third)
-    (refused 8)))
+groupAt n = groupBy 8 groupNumber n
 
 -- whether two groups are the same
 abbrev pub sameGroup : Group → Group → Bool

@@ -7,9 +7,13 @@ use Rattle.omnistat.specs.declared.group.Group.{Group}
 use Rattle.omnistat.specs.declared.group.Group.the-variants.{First, Second, Third}
 use Rattle.answer.specs.Answer.{refused, accepted}
 use Rattle.omnistat.specs.declared.habit.Habit.the-variants.{Numbered, Printed}
-use Rattle.omnistat.specs.Group.{replyType, groupOf, repliedGroup, groupNumber, groupAt, sameGroup}
+use Rattle.omnistat.specs.Group.{replyType, groupBy, groupOf, repliedGroup, groupNumber, groupAt, sameGroup}
 use Rattle.omnistat.specs.Host.{knownAt}
 use Rattle.answer.proofs.Laws.Test.{same}
+
+none-has : (n : ℕ) (valueOf : Group → ℕ) (value : ℕ) → (value ≡ valueOf First → ⊥) → (value ≡ valueOf Second → ⊥) → (value ≡ valueOf Third → ⊥)
+    → groupBy n valueOf value ≡ refused n
+none-has n valueOf value a b c = simp (ne-eqb value (valueOf First) a, ne-eqb value (valueOf Second) b, ne-eqb value (valueOf Third) c)
 
 module _ (type : Group → ℕ) (kind : ℕ) where
   pub names-first : kind ≡ type First → groupOf type kind ≡ accepted First
@@ -24,7 +28,7 @@ module _ (type : Group → ℕ) (kind : ℕ) where
       names-third h = simp (ne-eqb kind (type First) a, ne-eqb kind (type Second) b, eq-eqb kind (type Third) h)
 
       pub names-none : (kind ≡ type Third → ⊥) → groupOf type kind ≡ refused 6
-      names-none h = simp (ne-eqb kind (type First) a, ne-eqb kind (type Second) b, ne-eqb kind (type Third) h)
+      names-none h = none-has 6 type kind a b h
 
 -- as printed, type 3 names the polled group
 module _ (polled : Group) (kind : ℕ) where
@@ -42,7 +46,7 @@ names-itself Third = refl
 
 -- any other number than 1 to 3 names no group, any other than 0 and 1 no habit
 pub no-group : (n : ℕ) → (n ≡ 1 → ⊥) → (n ≡ 2 → ⊥) → (n ≡ 3 → ⊥) → groupAt n ≡ refused 8
-no-group n a b c = simp (ne-eqb n 1 a, ne-eqb n 2 b, ne-eqb n 3 c)
+no-group = none-has 8 groupNumber
 
 pub no-habit : (habit polled : ℕ) → (habit ≡ 0 → ⊥) → (habit ≡ 1 → ⊥) → knownAt habit polled ≡ refused 8
 no-habit habit polled a b = simp (ne-eqb habit 0 a, ne-eqb habit 1 b)
