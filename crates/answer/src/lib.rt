@@ -1,4 +1,6 @@
 // The refusals of document 01, their numbers, and the packing of an answer into a word for C.
+#![tactic(auto)]
+
 ghost use Rattle.std.specs.Prelude.{◌≡◌, [], ◌∷◌, ◌%◌, ◌^◌};
 ghost use Rattle.answer.specs.Answer.{number_of, written_of, refused, accepted, on_accepted};
 ghost use Rattle.answer.specs.Packed.{packed, byte, word, field};

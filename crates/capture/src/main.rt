@@ -1,4 +1,6 @@
 // Prints the listing of standard input, or only `refused 3` where that is above 4,096 bytes.
+#![tactic(auto)]
+
 ghost use Rattle.std.specs.Prelude.{◌≡◌, ◌++◌, ◌≤◌, length, drop};
 ghost use Rattle.answer.specs.Answer.{refused};
 ghost use Rattle.listing.specs.Text.{listing};

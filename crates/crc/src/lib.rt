@@ -1,6 +1,8 @@
 // The 16-bit CRC of Omni-Link frames (document 000, Appendix A): polynomial x^16+x^15+x^2+1, bits taken lowest first, start value 0.
 // It is worked out without a table, eight bytes at a time. The polynomial is (x+1)(x^15+x+1): modulo the second factor a word is reduced
 // by shifts, modulo the first only the parity of all bits counts.
+#![tactic(auto)]
+
 mod fold;
 mod word;
 

@@ -1,4 +1,6 @@
 // The login door (document 02, K6): a controller's own, simulated, so that logins can be practised.
+#![tactic(auto)]
+
 mod judge; // time that passes, and what is answered to a message
 mod state; // the secret, and the lent state
 

@@ -1,4 +1,6 @@
 // The C interface: a thin call over each public operation. include/gateway.h declares every function here.
+#![tactic(auto)]
+
 pub mod captures;
 pub mod cost;
 pub mod damaged;

@@ -1,4 +1,6 @@
 // The input of the programs: standard input, read to its end.
+#![tactic(auto)]
+
 ghost use Rattle.io.specs.Counts.{IsPrefixLen};
 
 const STDIN: i32 = 0;

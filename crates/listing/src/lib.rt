@@ -1,6 +1,8 @@
 // The capture listing (document 01, "The capture listing"): where a whole accepted frame starts, it is taken; else that byte is
 // noise. The frames are found once and kept; the text is measured where it might not fit, and then written. `pieces` lists a capture as
 // its bytes come.
+#![tactic(auto)]
+
 mod decimal;
 mod lines;
 pub mod pieces;

@@ -1,4 +1,6 @@
 // Mends standard input: prints the place of the flipped bit and the frame, or only the refusal (document 02, K8).
+#![tactic(auto)]
+
 ghost use Rattle.std.specs.Prelude.{◌≡◌, ◌++◌, ◌+◌, ◌*◌, ◌<◌, ◌≤◌, length, drop};
 ghost use Rattle.answer.specs.Answer.{number_of};
 ghost use Rattle.listing.specs.Parts.{Put};

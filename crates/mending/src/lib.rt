@@ -1,5 +1,7 @@
 // Mending a capture (document 02, K8): of bytes that are a frame but for one flipped bit after the length byte, the place of that bit and
 // the frame.
+#![tactic(auto)]
+
 ghost use Rattle.std.specs.Prelude.{◌≡◌, ◌+◌, ◌/◌, ◌<◌, ◌≤◌, length};
 ghost use Rattle.answer.specs.Answer.{accepted, refused, on_accepted, out_after};
 ghost use Rattle.link.specs.Frame.{read_frame};

@@ -1,4 +1,6 @@
 // Omni-Link messages (document 01, "Omni-Link messages"): typed reading and writing above frames.
+#![tactic(auto)]
+
 mod check;
 pub mod command;
 pub mod item;

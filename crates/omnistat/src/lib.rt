@@ -1,4 +1,6 @@
 // Omnistat2 messages, for both ends (document 01, "Omnistat2 messages"; source document 004).
+#![tactic(auto)]
+
 pub mod frame; // which end a message is for, the sum, and the frame of a message
 pub mod group; // the three groups of registers
 pub mod habit; // how thermostats reply to group polls

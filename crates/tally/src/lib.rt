@@ -1,5 +1,7 @@
 // Document 01, "Cost", and document 02, K5: the value of a cost word, and the tally, a record that the caller lends and to which meter
 // replies are added.
+#![tactic(auto)]
+
 ghost use Rattle.std.specs.Prelude.{◌≡◌};
 ghost use Rattle.tally.specs.Cost.{millionths, power};
 ghost use Rattle.tally.specs.Total.{exact_sum, next_total, kept_after, total_after, added_of};

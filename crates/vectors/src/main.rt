@@ -2,6 +2,8 @@
 // call's answer behind it; behind `cut` stand the three calls of a capture in two pieces, each with its own. A line that starts with no
 // such name, as a comment, is printed as it is. The calls are those of the C interface, whose answers are packed numbers, but for
 // meter replies, which are added in the tally's crate.
+#![tactic(auto)]
+
 mod captures; // the listing, of a whole capture and in pieces
 mod damaged; // damaged Omni-Link frames, mended
 mod door; // the login door

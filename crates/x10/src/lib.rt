@@ -1,4 +1,6 @@
 // X-10 patterns (document 01, "X-10 patterns"): a number, 0 or 1, for each half cycle, in a byte of its own.
+#![tactic(auto)]
+
 mod codes; // codes.rt: the code list of houses and units, and the table of functions
 mod packed; // packed.rt: the reader for C, whose answer is one number
 mod pairs; // pairs.rt: bits and their complements, read from places and put into them
