@@ -1,5 +1,5 @@
 -- Byte strings as bit strings, lowest bit of each byte first.
-use Rattle.std.specs.Prelude.{ℕ, zero, suc, ◌/◌, ◌%◌, Bool, true, false, List, [], ◌∷◌, ◌++◌, eqb}
+use Rattle.std.specs.Prelude.{ℕ, zero, suc, ◌/◌, ◌%◌, Bool, List, [], ◌∷◌, ◌++◌, eqb}
 
 -- whether a number's lowest bit is set
 abbrev pub odd : ℕ → Bool

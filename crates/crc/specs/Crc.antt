@@ -1,5 +1,5 @@
 -- The CRC of document 000, Appendix A, on bits.
-use Rattle.std.specs.Prelude.{ℕ, zero, suc, ◌*◌, ◌/◌, ◌%◌, Bool, List, [], ◌∷◌}
+use Rattle.std.specs.Prelude.{ℕ, ◌*◌, ◌/◌, ◌%◌, Bool, List, [], ◌∷◌}
 use Rattle.std.specs.Int.Bits.{bit_xor}
 use Rattle.answer.specs.Bit.{bit}
 use Rattle.crc.specs.Bits.{bit_string}

@@ -1,8 +1,8 @@
 -- Bit strings: what an outsider may check of them, and that bytes are told apart by their bits. Assumes nothing.
 use mathlib.Core.Path.{◌≡◌, refl, sym, ap, ap₂, ◌∙◌}
-use mathlib.Core.Bool.{Bool, true, false}
+use mathlib.Core.Bool.{Bool, false}
 use mathlib.Core.List.{List, [], ◌∷◌, ◌++◌}
-use Prim.Native.Nat.{ℕ, zero, suc, ◌+◌, ◌-◌, ◌*◌, ◌/◌, ◌%◌, ◌^◌, ◌<◌, ◌≤◌}
+use Prim.Native.Nat.{ℕ, zero, suc, ◌+◌, ◌-◌, ◌*◌, ◌/◌, ◌%◌, ◌^◌, ◌<◌}
 use native.Mathlib.Decide.{dec_lt}
 use native.Mathlib.Nat.{div-add-mod', pow-suc}
 use native.Mathlib.Numerals.{one-add}
@@ -13,7 +13,7 @@ use lib.ListN.{length, get_or, take, drop, length-append, get_or-append}
 use lib.Pow.{shr-shr, are_bytes}
 use lib.Seq.{get_or-append-add}
 use Rattle.answer.specs.Bit.{bit}
-use Rattle.crc.specs.Bits.{odd, bits_of, bit_string}
+use Rattle.crc.specs.Bits.{bits_of, bit_string}
 use Rattle.crc.proofs.Laws.Feed.{num}
 use Rattle.crc.proofs.Laws.Xor.{low_bit}
 

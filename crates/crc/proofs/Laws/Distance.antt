@@ -2,7 +2,7 @@
 use mathlib.Core.Path.{◌≡◌, refl, sym, ap, ap₂, ◌∙◌}
 use mathlib.Core.Bool.{Bool, true, false, xor}
 use mathlib.Core.List.{List, [], ◌∷◌, ◌++◌}
-use Prim.Native.Nat.{ℕ, zero, suc, ◌+◌, ◌*◌, ◌/◌, ◌%◌, ◌^◌, ◌<◌, ◌≤◌}
+use Prim.Native.Nat.{ℕ, suc, ◌+◌, ◌*◌, ◌%◌, ◌^◌, ◌<◌, ◌≤◌}
 use native.Mathlib.Decide.{dec_lt}
 use native.Mathlib.Omega.{arith}
 use lib.Bits.{bit_xor, xor_self, xor_lt}
@@ -11,11 +11,11 @@ use lib.Ieee.Fits.{and_l, and_r}
 use lib.ListN.{length, take, drop}
 use lib.Pow.{are_bytes}
 use Rattle.answer.specs.Bit.{bit}
-use Rattle.crc.specs.Bits.{odd, bits_of, bit_string}
+use Rattle.crc.specs.Bits.{bits_of, bit_string}
 use Rattle.crc.specs.Crc.{crc, feed}
-use Rattle.crc.specs.Places.{differences, places, first, last, Apart}
+use Rattle.crc.specs.Places.{differences, places, Apart}
 use Rattle.crc.specs.Parts.{turns}
-use Rattle.crc.proofs.Laws.Bits.{spelled, bit_string-length, bit_string-append}
+use Rattle.crc.proofs.Laws.Bits.{spelled, bit_string-append}
 use Rattle.crc.proofs.Laws.Feed.{num, turns-xor, turns_zero, turns_nonzero, feed-turns, feed-append, feed_below}
 use Rattle.crc.proofs.Laws.Parity.{even_places}
 use Rattle.crc.proofs.Laws.Wide.{wide_places, not_two}

@@ -4,13 +4,13 @@ use mathlib.Core.Path.{◌≡◌, refl, sym, ap, ap₂, ◌∙◌}
 use mathlib.Core.Bool.{Bool, true, false, xor}
 use mathlib.Core.List.{List, [], ◌∷◌, ◌++◌}
 use Prim.Native.Nat.{ℕ, zero, suc, ◌+◌, ◌*◌, ◌/◌, ◌%◌, ◌^◌, ◌<◌, ◌≤◌}
-use native.Mathlib.Nat.{add_comm, suc-add, add-suc, zero-add, mul_assoc, mul-one, pow-suc, mul-mod_left, mul-div_cancel, zero-lt-suc, le_refl}
+use native.Mathlib.Nat.{suc-add, add-suc, zero-add, mul_assoc, mul-one, pow-suc, mul-mod_left, mul-div_cancel, zero-lt-suc, le_refl}
 use native.Mathlib.Omega.{arith}
-use lib.Bits.{bit_xor, xor_comm, xor_zero_r, xor_self, xor_shifted, xor_lt}
-use lib.ListN.{length, length-append}
+use lib.Bits.{bit_xor, xor_comm, xor_zero_r, xor_shifted, xor_lt}
+use lib.ListN.{length}
 use lib.Pow.{pow_mono}
 use Rattle.answer.specs.Bit.{bit}
-use Rattle.crc.specs.Bits.{odd, bits_of, bit_string}
+use Rattle.crc.specs.Bits.{odd}
 use Rattle.crc.specs.Crc.{shift, feed}
 use Rattle.crc.specs.Parts.{turns}
 use Rattle.crc.proofs.Laws.Xor.{low_bit, xor_half, xor-odd, xor_assoc, xor_swap, xor_zero}

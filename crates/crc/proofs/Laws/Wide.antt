@@ -17,7 +17,7 @@ use Rattle.answer.specs.Bit.{bit}
 use Rattle.crc.specs.Crc.{shift}
 use Rattle.crc.specs.Places.{places, first, last}
 use Rattle.crc.specs.Parts.{turns}
-use Rattle.crc.proofs.Laws.Feed.{num, turns-xor, turns_zero, turns-add, turns_nonzero, shift_double, shift_lt, put-bit}
+use Rattle.crc.proofs.Laws.Feed.{num, turns-xor, turns-add, turns_nonzero, shift_double, shift_lt, put-bit}
 use Rattle.crc.proofs.Laws.Xor.{xor_zero}
 
 -- a clear bit in front changes nothing
