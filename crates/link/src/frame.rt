@@ -120,7 +120,7 @@ fn put_data(data: &[u8], out: &mut [u8])
     ensures { out.new ≡ take 3 out.old ++ «data».now ++ drop (length «data».now + 3) out.old }
 {
     let end = data.len() + 3;
-    bytes::copy(data, &mut out[3..end]);
+    out[3..end].copy_from_slice(data);
 }
 
 // Writes the CRC of a frame with length byte l, low byte first.

@@ -45,8 +45,8 @@ fn join(unread: &[u8], piece: &[u8], window: &mut [u8])
 {
     let held = unread.len();
     let end = held + piece.len();
-    bytes::copy(unread, &mut window[..held]);
-    bytes::copy(piece, &mut window[held..end]);
+    window[..held].copy_from_slice(unread);
+    window[held..end].copy_from_slice(piece);
 }
 
 // Judges the unread bytes and a piece behind them as far as they are settled. The places of the unread bytes are judged in the window;

@@ -141,7 +141,7 @@ pub(crate) fn put(state: &mut [u8], came: usize, run: usize, unread: &[u8])
     state[RUN + 1] = (run % 256) as u8;
     state[COUNT] = unread.len() as u8;
     let end = UNREAD + unread.len();
-    bytes::copy(unread, &mut state[UNREAD..end]);
+    state[UNREAD..end].copy_from_slice(unread);
 }
 
 // Puts a piece behind the unread bytes, where no place of them is judged.
@@ -158,7 +158,7 @@ pub(crate) fn append(state: &mut [u8], piece: &[u8])
     state[CAME] = (total / 256) as u8;
     state[CAME + 1] = (total % 256) as u8;
     state[COUNT] = (count + piece.len()) as u8;
-    bytes::copy(piece, &mut state[from..end]);
+    state[from..end].copy_from_slice(piece);
 }
 
 // Counts so many bytes of noise, where nothing is unread.

@@ -1,0 +1,14 @@
+use Prim.Native.Nat.{ℕ, ◌+◌, ◌-◌}
+use lib.ListN.{length, take, drop}
+use mathlib.Core.List.{List, ◌++◌}
+use mathlib.Core.Path.{ap, ◌∙◌}
+use Rattle.link.proofs.Laws.Written.{data_written}
+use Rattle.link.proofs.frame.put_data.Goals as goal
+
+pub returns : goal.returns
+returns c =
+    let a = c.args in
+    let s = c.args.out.now in
+    let d = a.«data».now in
+    ap (λ (ys : List ℕ). take 3 s ++ (ys ++ drop ((length d + 3) - 3) (drop 3 s))) c.copy.ensures.1
+    ∙ data_written s d
