@@ -10,5 +10,5 @@ returns c =
     let a = c.args in
     let s = c.args.out.now in
     let d = a.«data».now in
-    ap (λ (ys : List ℕ). take 3 s ++ (ys ++ drop ((length d + 3) - 3) (drop 3 s))) c.copy.ensures.1
+    ap (λ (ys : List ℕ). take 3 s ++ (ys ++ drop ((length d + 3) - 3) (drop 3 s))) c.copy_from_slice.ensures.after
     ∙ data_written s d

@@ -38,9 +38,11 @@ returns-then-out-count c =
 pub returns-then-count-eq0 : goal.returns-then-count-eq0
 returns-then-count-eq0 c =
     let a = c.args in
-    framed a.kind 5 a.«data».now a.out.now _ (omega arith) (omega arith) (omega arith) c.put_frame.ensures
+    let w = framed a.kind 5 a.«data».now a.out.now _ (omega arith) (omega arith) (omega arith) c.put_frame.ensures in
+    record { result_value = w.0; out_after = w.1 }
 
 pub returns : goal.returns
 returns c =
     let a = c.args in
-    framed a.kind _ a.«data».now a.out.now _ (omega arith) (omega arith) refl c.put_frame-2.ensures
+    let w = framed a.kind _ a.«data».now a.out.now _ (omega arith) (omega arith) refl c.put_frame-2.ensures in
+    record { result_value = w.0; out_after = w.1 }
