@@ -6,15 +6,7 @@ use Rattle.tally.proofs.Laws.Cost.{millionths_most}
 use Rattle.tally.proofs.convert.Reads as reads
 use Rattle.tally.proofs.convert.Lts as lts
 use Rattle.tally.proofs.power.Reads as power-reads
-use borrow.Author.Rules.{rules}
-use Rattle.tally.proofs.convert.Statement.{statement}
-use Rattle.tally.proofs.convert.Tie as tie
-
-cast-result : tie.Need-overflow-cast-result
-cast-result c = search rules
-
-power-requires : tie.Need-power-requires
-power-requires c κs = search rules
+use Rattle.tally.proofs.convert.Goals as goal
 
 product :
     (c : lts.After-power (power-reads.Asked, power-reads.Learnt) reads.Pre reads.Post)
@@ -22,11 +14,8 @@ product :
 unfolding millionths
 product c = cc
 
-mul-result : tie.Need-overflow-mul-result
-mul-result c = record { fits = omega (arith, product c, millionths_most c.before.args.word) }
+pub overflow_mul-result : goal.overflow_mul-result
+overflow_mul-result c = record { fits = omega (arith, product c, millionths_most c.args.word) }
 
-returns : tie.Need-returns
+pub returns : goal.returns
 returns c = product c
-
-pub convert-spec : {M : Type 1} → statement M
-convert-spec = tie.close (tie.spec cast-result power-requires mul-result returns)
