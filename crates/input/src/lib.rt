@@ -20,7 +20,7 @@ fn read_once<R: Read>(from: &mut R, buffer: &mut [u8]) -> usize
 }
 
 // Reads until the buffer is full, the input ends or a read fails, and answers how many bytes came to its start.
-pub fn read_full<R: Read>(from: &mut R, buffer: &mut [u8]) -> usize
+fn read_full<R: Read>(from: &mut R, buffer: &mut [u8]) -> usize
     ensures count { IsPrefixLen result buffer.new }
     ensures bytes { Consumes (R.remaining from.old) (R.remaining from.new) (take result buffer.new) }
 {

@@ -1,6 +1,6 @@
 // Reading the vectors: lines, the names that they start with, their digits, and the numbers and parts of what they give.
 ghost use Rattle.std.specs.Prelude.{◌≤◌, length};
-ghost use Rattle.io.specs.Counts.{IsPrefixLen};
+ghost use Rattle.input.specs.Counts.{IsPrefixLen};
 
 // The most bytes or places that a line gives.
 pub(crate) const MOST: usize = 512;
