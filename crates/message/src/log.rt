@@ -5,7 +5,7 @@ ghost use Rattle.message.specs.Log.{calendar_listed, log_listed, log_of, read_lo
 use crate::lists;
 use answer::Refusal;
 
-#[derive(Drop)]
+#[derive(Clone, Copy)]
 pub struct LogEntry {
     // At least 1.
     pub number: u8,

@@ -13,7 +13,7 @@ pub(crate) const REPLY: u8 = 0x80;
 const UNIVERSAL: u8 = 0xFA;
 
 // The end that a message is for.
-#[derive(Drop)]
+#[derive(Clone, Copy)]
 pub enum End {
     Thermostat,
     Host,

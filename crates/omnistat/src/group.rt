@@ -6,7 +6,7 @@ ghost use Rattle.omnistat.specs.Parts.{named_of};
 
 use answer::Refusal;
 
-#[derive(Drop)]
+#[derive(Clone, Copy)]
 pub enum Group {
     First,
     Second,

@@ -13,7 +13,7 @@ use crate::message::Check;
 use answer::Refusal;
 
 // Numbered: the reply with each group has a type of its own. Printed: all have type 3, as source document 004 prints it.
-#[derive(Drop)]
+#[derive(Clone, Copy)]
 pub enum Habit {
     Numbered,
     Printed,
