@@ -6,7 +6,7 @@ ghost use Rattle.answer.specs.Answer.{number_of, written_of, refused, accepted, 
 ghost use Rattle.answer.specs.Packed.{packed, byte, word, field};
 
 // Document 01, "Answer numbers": a case for each number in use, in their order.
-#[derive(Drop)]
+#[derive(Clone, Copy)]
 pub enum Refusal {
     // 1: fewer bytes or places than the frame needs.
     Short,
