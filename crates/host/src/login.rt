@@ -27,8 +27,7 @@ fn pack_answered(a: Answered) -> u64
 }
 
 // Answer (8): 05, 06, or 0 where the message is passed on.
-#[unsafe(no_mangle)]
-pub extern "C" fn login_door(
+pub fn login_door(
     secret: &[u8],
     state: &mut [u8],
     seconds: u32,
