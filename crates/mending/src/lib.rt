@@ -49,7 +49,7 @@ fn put_flipped(bytes: &[u8], p: usize, out: &mut [u8])
     requires bytes_in_bounds { length bytes.now ≤ length out.old }
     ensures { out.new ≡ out_after (accepted (flipped_at bytes.now p)) out.old }
 {
-    out.copy_from_slice(bytes);
+    out[..bytes.len()].copy_from_slice(bytes);
     let i = p / 8 + 1;
     out[i] = out[i] ^ 1 << p % 8;
 }

@@ -22,7 +22,7 @@ pub struct Tally {
 }
 
 // What adding a meter reply to the tally answers: the new total, or the refusal.
-#[derive(Drop)]
+#[derive(Clone, Copy)]
 pub enum Added {
     Total(u64),
     Refused(Refusal),

@@ -1,0 +1,28 @@
+use Prim.Native.Nat.{ℕ, ◌+◌, ◌-◌, ◌*◌, ◌<◌, ◌≤◌}
+use borrow.Author.Tests.{eqb-true, eqb-false}
+use lib.Dec.{eqb}
+use lib.ListN.{length, get_or, take, drop, set, length-set}
+use lib.Seq.{take-suc-set, length-take-le}
+use mathlib.Core.Bool.{Bool, true, false}
+use mathlib.Core.List.{List, ◌∷◌, [], ◌++◌}
+use mathlib.Core.Path.{◌≡◌, refl, sym, ap, subst, subst⁻¹, ◌∙◌}
+use native.Mathlib.Numerals.{add-one}
+use native.Mathlib.Omega.{arith}
+use Rattle.answer.specs.Answer.{accepted}
+use Rattle.link.specs.Frame.{read_first, size}
+use Rattle.listing.specs.Parts.{judgement, offset_in, count_in, kind_in, behind, Stands, Settles}
+use Rattle.listing.specs.State.{settled}
+use Rattle.listing.proofs.settle.settle.Given as goal
+
+-- the frames kept of the places judged
+pub record Going (s : List ℕ) (base : ℕ) (kept₀ kept : List ℕ) (at count : ℕ) : Type 0 where
+  pub settles : (from : ℕ) → from ≤ base → Settles s base from (take count kept) at
+  pub counted : count ≤ length kept
+  pub same : length kept ≡ length kept₀
+  pub long : length s < 5 * (length kept + 1)
+
+abbrev pub invariant-loop-at : goal.invariant-loop-at
+invariant-loop-at l = Going l.bytes l.base l.initial.found l.found l.at l.count
+
+abbrev pub decreases-loop-at : goal.decreases-loop-at
+decreases-loop-at l = l.limit - l.at
