@@ -7,34 +7,16 @@ use Rattle.listing.specs.Text.{digit, line_feed}
 use Rattle.mend.proofs.Laws.Text.{one_digit, two_digits, three_digits}
 use Rattle.mend.proofs.put_field.Goals as goal
 
-pub bounds-out-at-then-n-lt10 : goal.bounds-out-at-then-n-lt10
-bounds-out-at-then-n-lt10 c = simp length-set (omega arith)
-
 pub returns-then-n-lt10 : goal.returns-then-n-lt10
 returns-then-n-lt10 c =
     let a = c.args in
     same_bytes (sym (one_digit a.n c.if-n-lt10.true)) (stored₂ a.out.now a.at (digit a.n) line_feed (omega arith))
-
-pub bounds-out-at-then-n-lt100-2 : goal.bounds-out-at-then-n-lt100-2
-bounds-out-at-then-n-lt100-2 c = simp length-set (omega arith)
-
-pub bounds-out-at-then-n-lt100-3 : goal.bounds-out-at-then-n-lt100-3
-bounds-out-at-then-n-lt100-3 c = simp length-set (omega arith)
 
 pub returns-then-n-lt100 : goal.returns-then-n-lt100
 returns-then-n-lt100 c =
     let a = c.args in
     same_bytes (sym (two_digits a.n c.if-n-lt10.false c.if-n-lt100.true))
     (stored₃ a.out.now a.at (digit (a.n / 10)) (digit (a.n % 10)) line_feed (omega arith))
-
-pub bounds-out-at-3 : goal.bounds-out-at-3
-bounds-out-at-3 c = simp length-set (omega arith)
-
-pub bounds-out-at-4 : goal.bounds-out-at-4
-bounds-out-at-4 c = simp length-set (omega arith)
-
-pub bounds-out-at-5 : goal.bounds-out-at-5
-bounds-out-at-5 c = simp length-set (omega arith)
 
 pub returns : goal.returns
 returns c =

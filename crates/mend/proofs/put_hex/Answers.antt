@@ -6,12 +6,6 @@ use native.Mathlib.Omega.{arith}
 use Rattle.listing.proofs.Laws.Output.{same_bytes, stored₃}
 use Rattle.mend.proofs.put_hex.Goals as goal
 
-pub bounds-out-at-2 : goal.bounds-out-at-2
-bounds-out-at-2 c = simp length-set (omega arith)
-
-pub bounds-out-at-3 : goal.bounds-out-at-3
-bounds-out-at-3 c = simp length-set (omega arith)
-
 pub returns : goal.returns
 returns c =
     let a = c.args in

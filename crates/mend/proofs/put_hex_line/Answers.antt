@@ -7,11 +7,6 @@ use Rattle.listing.proofs.Laws.Output.{joined, same_bytes}
 use Rattle.mend.proofs.Laws.Text.{hex_fits, hex_line_split}
 use Rattle.mend.proofs.put_hex_line.Goals as goal
 
-pub slice_bounds-put_spaced-end : goal.slice_bounds-put_spaced-end
-slice_bounds-put_spaced-end c =
-    let s = c.args.bytes.now in
-    sym (length-take-le (length s - 1) s (omega arith))
-
 pub put_spaced-next-requires : goal.put_spaced-next-requires
 put_spaced-next-requires c = simp length-take (omega arith)
 
@@ -19,7 +14,7 @@ pub put_hex-requires : goal.put_hex-requires
 put_hex-requires c =
     let put = c.put_spaced-next in
     let s = c.args.bytes.now in
-    hex_fits s (length s - 1) (omega (arith, (c.requires.bytes_nonzero, c.requires.bytes_in_bounds))) c.requires.bytes_in_bounds put.ensures
+    hex_fits s (length s - 1) ((omega (arith, c.requires.bytes_nonzero, c.requires.bytes_in_bounds))) c.requires.bytes_in_bounds put.ensures
 
 pub returns : goal.returns
 returns c =

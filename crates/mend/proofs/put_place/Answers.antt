@@ -4,21 +4,6 @@ use Rattle.listing.proofs.Laws.Output.{put-length, stored, joined}
 use Rattle.mend.specs.Printed.{place_word}
 use Rattle.mend.proofs.put_place.Goals as goal
 
-pub bounds-out-1 : goal.bounds-out-1
-bounds-out-1 c = simp length-set (omega arith)
-
-pub bounds-out-2 : goal.bounds-out-2
-bounds-out-2 c = simp length-set (omega arith)
-
-pub bounds-out-3 : goal.bounds-out-3
-bounds-out-3 c = simp length-set (omega arith)
-
-pub bounds-out-4 : goal.bounds-out-4
-bounds-out-4 c = simp length-set (omega arith)
-
-pub bounds-out-5 : goal.bounds-out-5
-bounds-out-5 c = simp length-set (omega arith)
-
 pub put_field-requires : goal.put_field-requires
 put_field-requires c = record {
   n_bound = c.requires.place_bound;

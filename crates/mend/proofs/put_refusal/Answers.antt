@@ -6,27 +6,6 @@ use Rattle.listing.specs.Text.{refused_word, refusal_text}
 use Rattle.mend.proofs.Laws.Text.{small_number}
 use Rattle.mend.proofs.put_refusal.Goals as goal
 
-pub bounds-out-1 : goal.bounds-out-1
-bounds-out-1 c = simp length-set (omega arith)
-
-pub bounds-out-2 : goal.bounds-out-2
-bounds-out-2 c = simp length-set (omega arith)
-
-pub bounds-out-3 : goal.bounds-out-3
-bounds-out-3 c = simp length-set (omega arith)
-
-pub bounds-out-4 : goal.bounds-out-4
-bounds-out-4 c = simp length-set (omega arith)
-
-pub bounds-out-5 : goal.bounds-out-5
-bounds-out-5 c = simp length-set (omega arith)
-
-pub bounds-out-6 : goal.bounds-out-6
-bounds-out-6 c = simp length-set (omega arith)
-
-pub bounds-out-7 : goal.bounds-out-7
-bounds-out-7 c = simp length-set (omega arith)
-
 pub put_field-requires : goal.put_field-requires
 put_field-requires c = record {
   n_bound = omega (arith, c.number.ensures, small_number c.args.r);

@@ -11,16 +11,10 @@ pub loop-i-init : goal.loop-i-init
 unfolding spaced
 loop-i-init c = (zero-le, nothing _ _ (omega (arith, c.requires)))
 
-pub bounds-bytes-i : goal.bounds-bytes-i
-bounds-bytes-i c = omega arith
-
 pub put_hex-next-requires : goal.put_hex-next-requires
 put_hex-next-requires c =
     let l = c.loop-i in
     hex_fits c.args.bytes.now l.i c.loop-i-test.true c.requires l.invariant.1
-
-pub overflow_add-i : goal.overflow_add-i
-overflow_add-i c = omega arith
 
 pub loop-i-smaller : goal.loop-i-smaller
 loop-i-smaller c = omega arith

@@ -22,8 +22,11 @@ put_mended-requires c =
     told c.args.bytes.now 69 (omega arith) _ c.in-Accepted.is call.ensures.result_value call.ensures.out_after in
     let k = known in
     let size = length-take-le _ c.mend.new.out k.within in
-    let w = omega (arith, size, k.small, k.some, k.few, c.requires) in
-    record { place_bound = w.0; frame_nonzero = w.1.0; frame_in_bounds = w.1.1 }
+    record {
+      place_bound = k.small;
+      frame_nonzero = omega (arith, size, k.some);
+      frame_in_bounds = omega (arith, size, k.few, c.requires);
+    }
 
 pub returns-in-Accepted : goal.returns-in-Accepted
 returns-in-Accepted c =
