@@ -1,5 +1,4 @@
 use Prim.Native.Nat.{◌/◌, ◌%◌}
-use lib.ListN.{length-set}
 use mathlib.Core.Path.{sym}
 use native.Mathlib.Omega.{arith}
 use Rattle.listing.proofs.Laws.Output.{same_bytes, stored₂, stored₃, stored₄}

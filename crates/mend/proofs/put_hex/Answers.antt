@@ -1,8 +1,6 @@
 use Prim.Native.Nat.{ℕ}
-use lib.ListN.{length-set}
 use mathlib.Core.List.{List, [], ◌∷◌}
 use mathlib.Core.Path.{ap₂}
-use native.Mathlib.Omega.{arith}
 use Rattle.listing.proofs.Laws.Output.{same_bytes, stored₃}
 use Rattle.mend.proofs.put_hex.Goals as goal
 

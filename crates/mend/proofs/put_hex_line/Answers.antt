@@ -1,7 +1,5 @@
 use Prim.Native.Nat.{◌-◌}
 use lib.ListN.{length, length-take}
-use lib.Seq.{length-take-le}
-use mathlib.Core.Path.{sym}
 use native.Mathlib.Omega.{arith}
 use Rattle.listing.proofs.Laws.Output.{joined, same_bytes}
 use Rattle.mend.proofs.Laws.Text.{hex_fits, hex_line_split}

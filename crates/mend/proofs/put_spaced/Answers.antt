@@ -2,7 +2,7 @@ use Prim.Native.Nat.{zero-le}
 use lib.Seq.{take_all}
 use mathlib.Core.Path.{ap}
 use native.Mathlib.Omega.{arith}
-use Rattle.listing.proofs.Laws.Output.{nothing, put-length, joined, same_bytes}
+use Rattle.listing.proofs.Laws.Output.{nothing, joined, same_bytes}
 use Rattle.mend.proofs.Laws.Text.{hex_fits, spaced-step}
 use Rattle.mend.specs.Parts.{spaced}
 use Rattle.mend.proofs.put_spaced.Goals as goal
@@ -16,18 +16,12 @@ put_hex-next-requires c =
     let l = c.loop-i in
     hex_fits c.args.bytes.now l.i c.loop-i-test.true c.requires l.invariant.1
 
-pub loop-i-smaller : goal.loop-i-smaller
-loop-i-smaller c = omega arith
-
 pub loop-i-preserved : goal.loop-i-preserved
 loop-i-preserved c =
     let l = c.loop-i in
     let bytes = c.args.bytes.now in
     let taken = c.loop-i-test.true in
     (omega arith, same_bytes (spaced-step bytes l.i taken) (joined l.invariant.1 c.put_hex-next.ensures))
-
-pub shape_of-out : goal.shape_of-out
-shape_of-out c = put-length c.loop-i.invariant.1
 
 pub returns : goal.returns
 returns c =
