@@ -30,12 +30,7 @@ pub fn omnistat_read_at_host(habit: u8, polled: u8, bytes: &[u8]) -> u64
 }
 
 // Writes a message to a thermostat.
-pub fn omnistat_write_to_thermostat(
-    address: u8,
-    kind: u8,
-    payload: &[u8],
-    out: &mut [u8],
-) -> u64
+pub fn omnistat_write_to_thermostat(address: u8, kind: u8, payload: &[u8], out: &mut [u8]) -> u64
     ensures value { result ≡ packed (on_accepted (λ count. word count ∷ []) (on_accepted length (in_room (length out.old) (write_bytes End.Thermostat address kind payload.now)))) }
     ensures out_after { out.new ≡ out_after (in_room (length out.old) (write_bytes End.Thermostat address kind payload.now)) out.old }
 {

@@ -27,13 +27,7 @@ pub fn x10_write_function(house: u8, code: u8, out: &mut [u8]) -> u64
     pack_written(x10::write_function_code(house, code, out))
 }
 
-pub fn x10_write_extended(
-    house: u8,
-    unit: u8,
-    data: u8,
-    command: u8,
-    out: &mut [u8],
-) -> u64
+pub fn x10_write_extended(house: u8, unit: u8, data: u8, command: u8, out: &mut [u8]) -> u64
     ensures value { result ≡ packed (on_accepted (λ count. word count ∷ []) (on_accepted length (in_room (length out.old) (write (extended house unit «data» command))))) }
     ensures out_after { out.new ≡ out_after (in_room (length out.old) (write (extended house unit «data» command))) out.old }
 {
