@@ -31,8 +31,8 @@ lib: $(LIB)
 
 $(LIB): crates.txt $(shell find crates -name '*.rt' -o -name '*.antt')
 	@mkdir -p target
-	@rt staticlib host > target/staticlib.log 2>&1 || { cat target/staticlib.log; exit 1; }
-	@cp target/staticlib/libhost.a $@
+	@(cd crates/host_c && rt lib) > target/staticlib.log 2>&1 || { cat target/staticlib.log; exit 1; }
+	@cp crates/host_c/out/libhost_c.a $@
 
 ctest: $(TESTS)
 
@@ -83,8 +83,8 @@ door: target/examples/door
 	@target/examples/door
 
 $(CAPTURE) $(MEND): target/bin/%: crates.txt $(shell find crates -name '*.rt' -o -name '*.antt')
-	@rt check $* >&2 </dev/null
-	@touch $@
+	@(cd crates/$* && rt run) > /dev/null < /dev/null
+	@install -D crates/$*/out/$* $@
 
 run: $(CAPTURE)
 	@if [ -t 0 ]; then $(CAPTURE) <samples/line.capture; else $(CAPTURE); fi

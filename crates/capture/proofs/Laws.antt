@@ -1,13 +1,12 @@
 -- What is printed of an answer, and the bytes that are stored for it. Assumes nothing.
-use mathlib.Core.Path.{◌≡◌, refl, sym, ap, ◌∙◌}
+use mathlib.Core.Path.{◌≡◌, refl, ap, ◌∙◌}
 use mathlib.Core.List.{List, [], ◌∷◌, ◌++◌}
-use Prim.Native.Nat.{ℕ, suc, ◌+◌, ◌<◌, ◌≤◌}
+use Prim.Native.Nat.{ℕ, ◌+◌, ◌≤◌}
 use native.Mathlib.Omega.{arith}
-use lib.ListN.{length, take, drop}
+use lib.ListN.{length, drop}
 use lib.Seq.{sets, sets-eq}
 use Rattle.answer.specs.Answer.{Outcome, refused, accepted, on_accepted, out_after}
-use Rattle.answer.proofs.Laws.Test.{not_accepted}
-use Rattle.listing.specs.Text.{number, digit, line_feed, listing, refused_word}
+use Rattle.listing.specs.Text.{line_feed, listing, refused_word}
 use Rattle.listing.proofs.Laws.Answers.{only_3}
 use Rattle.listing.proofs.Laws.Numbers.{below_10}
 use Rattle.capture.specs.Printed.{printed}

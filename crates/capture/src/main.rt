@@ -7,8 +7,7 @@ ghost use Rattle.listing.specs.Text.{listing};
 ghost use Rattle.capture.specs.Printed.{printed};
 
 use answer::Written;
-
-const STDOUT: i32 = 1;
+use std::io;
 
 // One byte more than a capture may have.
 const TOO_MUCH: usize = 4097;
@@ -48,10 +47,10 @@ fn report(bytes: &[u8], out: &mut [u8]) -> usize
     }
 }
 
-fn main() {
+fn main(rt: HostRuntime) -> io::Result<()> {
     let mut capture = [0u8; TOO_MUCH];
-    let n = input::read_to_end(&mut capture);
+    let n = input::read_to_end(&mut rt.stdin(), &mut capture);
     let mut text = [0u8; ROOM];
     let size = report(&capture[..n], &mut text);
-    io::write_all(STDOUT, &text[..size]);
+    rt.write_all(&text[..size])
 }

@@ -6,8 +6,7 @@ ghost use Rattle.listing.specs.Text.{listing};
 ghost use Rattle.listing.specs.Pieces.{piece, finish, printed_by, state_after};
 
 // Bytes written (32).
-#[unsafe(no_mangle)]
-pub extern "C" fn capture_listing(bytes: &[u8], out: &mut [u8]) -> u64
+pub fn capture_listing(bytes: &[u8], out: &mut [u8]) -> u64
     ensures value { result ≡ packed (on_accepted (λ b. field 32 (length b) ∷ []) (in_room (length out.old) (listing bytes.now))) }
     ensures out_after { out.new ≡ out_after (in_room (length out.old) (listing bytes.now)) out.old }
 {
@@ -15,8 +14,7 @@ pub extern "C" fn capture_listing(bytes: &[u8], out: &mut [u8]) -> u64
 }
 
 // Bytes written (32).
-#[unsafe(no_mangle)]
-pub extern "C" fn capture_piece(state: &mut [u8], bytes: &[u8], out: &mut [u8]) -> u64
+pub fn capture_piece(state: &mut [u8], bytes: &[u8], out: &mut [u8]) -> u64
     ensures value { result ≡ packed (on_accepted (λ b. field 32 (length b) ∷ []) (printed_by (piece (length out.old) state.old bytes.now))) }
     ensures out_after { out.new ≡ out_after (printed_by (piece (length out.old) state.old bytes.now)) out.old }
     ensures state_after { state.new ≡ state_after (piece (length out.old) state.old bytes.now) state.old }
@@ -25,8 +23,7 @@ pub extern "C" fn capture_piece(state: &mut [u8], bytes: &[u8], out: &mut [u8]) 
 }
 
 // Bytes written (32).
-#[unsafe(no_mangle)]
-pub extern "C" fn capture_finish(state: &mut [u8], out: &mut [u8]) -> u64
+pub fn capture_finish(state: &mut [u8], out: &mut [u8]) -> u64
     ensures value { result ≡ packed (on_accepted (λ b. field 32 (length b) ∷ []) (printed_by (finish (length out.old) state.old))) }
     ensures out_after { out.new ≡ out_after (printed_by (finish (length out.old) state.old)) out.old }
     ensures state_after { state.new ≡ state_after (finish (length out.old) state.old) state.old }

@@ -8,8 +8,7 @@ ghost use Rattle.tally.specs.Total.{next_total, total_after, added_of};
 use tally::{Added, Tally};
 
 // The value of a cost word in millionths: no word is refused.
-#[unsafe(no_mangle)]
-pub extern "C" fn cost_millionths(word: u16) -> u64
+pub fn cost_millionths(word: u16) -> u64
     ensures { result ≡ packed (accepted (field 56 (millionths word) ∷ [])) }
 {
     answer::pack_56_bits(tally::convert(word))
@@ -26,8 +25,7 @@ fn pack_added(added: Added) -> u64
 }
 
 // Adds the cost word of a meter reply to the lent tally.
-#[unsafe(no_mangle)]
-pub extern "C" fn meter_add(t: &mut Tally, bytes: &[u8]) -> u64
+pub fn meter_add(t: &mut Tally, bytes: &[u8]) -> u64
     ensures { (result ≡ packed (on_accepted (λ total. []) (next_total t.old.total bytes.now)))
         × (t.new.total ≡ total_after t.old.total bytes.now) }
 {

@@ -16,8 +16,7 @@ fn pack_mended(r: FrameMended) -> u64
 }
 
 // Place (16), bytes written (16).
-#[unsafe(no_mangle)]
-pub extern "C" fn frame_mend(bytes: &[u8], out: &mut [u8]) -> u64
+pub fn frame_mend(bytes: &[u8], out: &mut [u8]) -> u64
     ensures value { result ≡ packed (on_accepted (λ m. word m.place ∷ word (length m.frame) ∷ []) (mend_in_room (length out.old) bytes.now)) }
     ensures out_after { out.new ≡ out_after (on_accepted (λ (m : Mended). m.frame) (mend_in_room (length out.old) bytes.now)) out.old }
 {

@@ -1,4 +1,5 @@
-// The C interface: a thin call over each public operation. include/gateway.h declares every function here.
+// The calls of the C interface: a thin call over each public operation. The crate host_c exports every public function here, and
+// include/gateway.h declares them.
 #![tactic(auto)]
 
 pub mod captures;

@@ -27,14 +27,7 @@ fn pack_answered(a: Answered) -> u64
 }
 
 // Answer (8): 05, 06, or 0 where the message is passed on.
-#[unsafe(no_mangle)]
-pub extern "C" fn login_door(
-    secret: &[u8],
-    state: &mut [u8],
-    seconds: u32,
-    kind: u8,
-    data: &[u8],
-) -> u64
+pub fn login_door(secret: &[u8], state: &mut [u8], seconds: u32, kind: u8, data: &[u8]) -> u64
     ensures value { result ≡ packed (on_accepted reply_fields (reply_by (step secret.now state.old seconds kind «data».now))) }
     ensures state_after { state.new ≡ state_after (step secret.now state.old seconds kind «data».now) state.old }
 {

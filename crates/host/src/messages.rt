@@ -101,16 +101,14 @@ fn pack_text(r: TextRead) -> u64
 }
 
 // Type (8), count of items (8).
-#[unsafe(no_mangle)]
-pub extern "C" fn omnilink_message_read(bytes: &[u8]) -> u64
+pub fn omnilink_message_read(bytes: &[u8]) -> u64
     ensures { result ≡ packed (on_accepted (λ m. message_fields (counted m)) (read_message bytes.now)) }
 {
     message::packed::read_packed(bytes)
 }
 
 // Bytes written (16).
-#[unsafe(no_mangle)]
-pub extern "C" fn omnilink_message_write(kind: u8, data: &[u8], out: &mut [u8]) -> u64
+pub fn omnilink_message_write(kind: u8, data: &[u8], out: &mut [u8]) -> u64
     ensures value { result ≡ packed (on_accepted (λ b. word (length b) ∷ []) (in_room (length out.old) (write_message kind «data».now))) }
     ensures out_after { out.new ≡ out_after (in_room (length out.old) (write_message kind «data».now)) out.old }
 {
@@ -118,40 +116,35 @@ pub extern "C" fn omnilink_message_write(kind: u8, data: &[u8], out: &mut [u8]) 
 }
 
 // Condition (8), latched alarm (8), arming (8), unacknowledged trouble (8), loop reading (8) of zone i.
-#[unsafe(no_mangle)]
-pub extern "C" fn omnilink_zone(bytes: &[u8], i: usize) -> u64
+pub fn omnilink_zone(bytes: &[u8], i: usize) -> u64
     ensures { result ≡ packed (on_accepted zone_fields (zone_item i bytes.now)) }
 {
     pack_zone(message::item::zone(bytes, i))
 }
 
 // Event i (16).
-#[unsafe(no_mangle)]
-pub extern "C" fn omnilink_event(bytes: &[u8], i: usize) -> u64
+pub fn omnilink_event(bytes: &[u8], i: usize) -> u64
     ensures { result ≡ packed (on_accepted word_fields (event_item i bytes.now)) }
 {
     pack_word(message::item::event(bytes, i))
 }
 
 // Displayed (8), not acknowledged (8) of text message i.
-#[unsafe(no_mangle)]
-pub extern "C" fn omnilink_text_message(bytes: &[u8], i: usize) -> u64
+pub fn omnilink_text_message(bytes: &[u8], i: usize) -> u64
     ensures { result ≡ packed (on_accepted text_fields (text_item i bytes.now)) }
 {
     pack_text(message::item::text_message(bytes, i))
 }
 
 // Command (8), unit of duration (8), count of the duration, percent or value (8), P2 (16).
-#[unsafe(no_mangle)]
-pub extern "C" fn omnilink_command(bytes: &[u8]) -> u64
+pub fn omnilink_command(bytes: &[u8]) -> u64
     ensures { result ≡ packed (on_accepted command_fields (command_item bytes.now)) }
 {
     message::item::command_packed(bytes)
 }
 
 // The field (16) of a log entry, 0 to 8.
-#[unsafe(no_mangle)]
-pub extern "C" fn omnilink_log_entry(bytes: &[u8], field: usize) -> u64
+pub fn omnilink_log_entry(bytes: &[u8], field: usize) -> u64
     ensures { result ≡ packed (on_accepted word_fields (log_item field bytes.now)) }
 {
     pack_word(message::item::log_entry(bytes, field))

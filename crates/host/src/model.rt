@@ -8,8 +8,7 @@ ghost use Rattle.thermostat.specs.Temperature.{celsius, fahrenheit_tenths, bytes
 use thermostat::setpoints::{Pair, Setpoints};
 
 // A step of the model thermostat.
-#[unsafe(no_mangle)]
-pub extern "C" fn thermostat_step(
+pub fn thermostat_step(
     own: u8,
     map: &mut [u8],
     texts: &mut [u8],
@@ -25,24 +24,21 @@ pub extern "C" fn thermostat_step(
 }
 
 // A byte in degrees Celsius.
-#[unsafe(no_mangle)]
-pub extern "C" fn temperature_celsius(byte: u8) -> f32
+pub fn temperature_celsius(byte: u8) -> f32
     ensures { result ≡ celsius byte }
 {
     thermostat::temperature::celsius(byte)
 }
 
 // A byte in tenths of a degree Fahrenheit.
-#[unsafe(no_mangle)]
-pub extern "C" fn temperature_fahrenheit_tenths(byte: u8) -> i32
+pub fn temperature_fahrenheit_tenths(byte: u8) -> i32
     ensures { result ≡ fahrenheit_tenths byte }
 {
     thermostat::temperature::fahrenheit_tenths(byte)
 }
 
 // The setpoint pair that two bytes make.
-#[unsafe(no_mangle)]
-pub extern "C" fn setpoints_from_bytes(cool: u8, heat: u8) -> Setpoints
+pub fn setpoints_from_bytes(cool: u8, heat: u8) -> Setpoints
     ensures { (result.cool ≡ celsius cool) × (result.heat ≡ celsius heat) }
 {
     thermostat::setpoints::from_bytes(cool, heat)
@@ -59,8 +55,7 @@ fn pack_pair(p: Pair) -> u64
 }
 
 // The two bytes that make a setpoint pair.
-#[unsafe(no_mangle)]
-pub extern "C" fn setpoints_to_bytes(p: Setpoints) -> u64
+pub fn setpoints_to_bytes(p: Setpoints) -> u64
     ensures { result ≡ packed (on_accepted pair_fields (bytes_of p.cool p.heat)) }
 {
     pack_pair(thermostat::setpoints::to_bytes(p))

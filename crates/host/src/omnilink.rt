@@ -16,16 +16,14 @@ fn pack_frame(r: FrameRead) -> u64
 }
 
 // Type (8), count of data bytes (8).
-#[unsafe(no_mangle)]
-pub extern "C" fn omnilink_frame_read(bytes: &[u8]) -> u64
+pub fn omnilink_frame_read(bytes: &[u8]) -> u64
     ensures { result ≡ packed (on_accepted (λ f. byte f.kind ∷ byte (length f.bytes) ∷ []) (read_frame bytes.now)) }
 {
     pack_frame(link::frame::read(bytes))
 }
 
 // Bytes written (16).
-#[unsafe(no_mangle)]
-pub extern "C" fn omnilink_frame_write(kind: u8, data: &[u8], out: &mut [u8]) -> u64
+pub fn omnilink_frame_write(kind: u8, data: &[u8], out: &mut [u8]) -> u64
     ensures value { result ≡ packed (on_accepted (λ b. word (length b) ∷ []) (in_room (length out.old) (write_frame kind «data».now))) }
     ensures out_after { out.new ≡ out_after (in_room (length out.old) (write_frame kind «data».now)) out.old }
 {

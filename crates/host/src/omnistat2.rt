@@ -12,16 +12,14 @@ use omnistat::group::Chosen;
 use omnistat::habit::Known;
 
 // Reads a message at the thermostat.
-#[unsafe(no_mangle)]
-pub extern "C" fn omnistat_read_at_thermostat(bytes: &[u8]) -> u64
+pub fn omnistat_read_at_thermostat(bytes: &[u8]) -> u64
     ensures { result ≡ packed (on_accepted (fields End.Thermostat) (read End.Thermostat bytes.now)) }
 {
     omnistat::request::read_packed(bytes)
 }
 
 // Reads a message at the host.
-#[unsafe(no_mangle)]
-pub extern "C" fn omnistat_read_at_host(habit: u8, polled: u8, bytes: &[u8]) -> u64
+pub fn omnistat_read_at_host(habit: u8, polled: u8, bytes: &[u8]) -> u64
     ensures { result ≡ packed (read_at_host habit polled bytes.now) }
 {
     let known = omnistat::habit::known_at(habit, polled);
@@ -32,13 +30,7 @@ pub extern "C" fn omnistat_read_at_host(habit: u8, polled: u8, bytes: &[u8]) -> 
 }
 
 // Writes a message to a thermostat.
-#[unsafe(no_mangle)]
-pub extern "C" fn omnistat_write_to_thermostat(
-    address: u8,
-    kind: u8,
-    payload: &[u8],
-    out: &mut [u8],
-) -> u64
+pub fn omnistat_write_to_thermostat(address: u8, kind: u8, payload: &[u8], out: &mut [u8]) -> u64
     ensures value { result ≡ packed (on_accepted (λ count. word count ∷ []) (on_accepted length (in_room (length out.old) (write_bytes End.Thermostat address kind payload.now)))) }
     ensures out_after { out.new ≡ out_after (in_room (length out.old) (write_bytes End.Thermostat address kind payload.now)) out.old }
 {
@@ -46,8 +38,7 @@ pub extern "C" fn omnistat_write_to_thermostat(
 }
 
 // Writes a reply to the host.
-#[unsafe(no_mangle)]
-pub extern "C" fn omnistat_write_to_host(
+pub fn omnistat_write_to_host(
     habit: u8,
     polled: u8,
     number: u8,
@@ -67,8 +58,7 @@ pub extern "C" fn omnistat_write_to_host(
 }
 
 // Writes the reply with a group to the host.
-#[unsafe(no_mangle)]
-pub extern "C" fn omnistat_write_group_to_host(
+pub fn omnistat_write_group_to_host(
     habit: u8,
     polled: u8,
     number: u8,
@@ -91,8 +81,7 @@ pub extern "C" fn omnistat_write_group_to_host(
 }
 
 // Writes a text to a thermostat.
-#[unsafe(no_mangle)]
-pub extern "C" fn omnistat_write_text_to_thermostat(
+pub fn omnistat_write_text_to_thermostat(
     address: u8,
     half: u8,
     start: u8,
@@ -106,8 +95,7 @@ pub extern "C" fn omnistat_write_text_to_thermostat(
 }
 
 // Writes a text to the host.
-#[unsafe(no_mangle)]
-pub extern "C" fn omnistat_write_text_to_host(
+pub fn omnistat_write_text_to_host(
     number: u8,
     half: u8,
     start: u8,

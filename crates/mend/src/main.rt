@@ -11,8 +11,7 @@ ghost use Rattle.mend.specs.Parts.{spaced};
 
 use answer::Refusal;
 use mending::FrameMended;
-
-const STDOUT: i32 = 1;
+use std::io;
 
 // The longest frame.
 const FRAME: usize = 69;
@@ -162,10 +161,10 @@ fn report(bytes: &[u8], out: &mut [u8]) -> usize
     }
 }
 
-fn main() {
+fn main(rt: HostRuntime) -> io::Result<()> {
     let mut capture = [0u8; TOO_MUCH];
-    let n = input::read_to_end(&mut capture);
+    let n = input::read_to_end(&mut rt.stdin(), &mut capture);
     let mut text = [0u8; ROOM];
     let size = report(&capture[..n], &mut text);
-    io::write_all(STDOUT, &text[..size]);
+    rt.write_all(&text[..size])
 }

@@ -2,8 +2,9 @@
 ghost use Rattle.std.specs.Prelude.{◌≡◌};
 ghost use Rattle.tally.specs.Total.{next_total, added_of};
 
-use crate::input::{byte, first, long, rest, wide};
 use crate::output::{fill_in, show};
+use crate::reading::{byte, first, long, rest, wide};
+use std::io;
 use tally::{Added, Tally};
 
 const REGISTERS: usize = 256;
@@ -34,21 +35,24 @@ fn numbered() -> [u8; REGISTERS] {
 }
 
 // A register of such a map, where it no longer holds its number.
-fn changed(register: usize, byte: u8) {
+fn changed(to: &impl Print, register: usize, byte: u8) -> io::Result<()> {
     if byte as usize != register {
         fill_in(
+            to,
             b", register %0 is %1",
             register as u64 % 256 + byte as u64 * 256,
-        );
+        )?;
     }
+    Ok(())
 }
 
-fn changes(map: &[u8]) {
+fn changes(to: &impl Print, map: &[u8]) -> io::Result<()> {
     let mut i = 0;
     while i < map.len() {
-        changed(i, map[i]);
+        changed(to, i, map[i])?;
         i += 1;
     }
+    Ok(())
 }
 
 // A store of ten texts with one character: 0 in the first, up to 9 in the last.
@@ -65,26 +69,32 @@ fn digits() -> [u8; TEXTS] {
 }
 
 // A text of such a store, where it is no longer the digit: its bytes within its count.
-fn changed_text(i: u8, text: &[u8]) {
+fn changed_text(to: &impl Print, i: u8, text: &[u8]) -> io::Result<()> {
     if byte(text, 0) == 1 {
         if wide(byte(text, 1)) == FIRST_DIGIT + i as u64 {
-            return;
+            return Ok(());
         }
     }
-    show(b", text %1 is", (FIRST_TEXT + i as u64) % 256 * 256, text);
-    show(b"+1", byte(text, 0) as u64 * 256, rest(text, 1));
+    show(
+        to,
+        b", text %1 is",
+        (FIRST_TEXT + i as u64) % 256 * 256,
+        text,
+    )?;
+    show(to, b"+1", byte(text, 0) as u64 * 256, rest(text, 1))
 }
 
-fn changed_texts(texts: &[u8]) {
+fn changed_texts(to: &impl Print, texts: &[u8]) -> io::Result<()> {
     let mut i: u8 = 0;
     while i < 10 {
-        changed_text(i, rest(texts, i as usize * TEXT));
+        changed_text(to, i, rest(texts, i as usize * TEXT))?;
         i += 1;
     }
+    Ok(())
 }
 
 // Own address, then the message. The map starts with each register holding its number, the text store with a digit in each text.
-pub(crate) fn step(bytes: &[u8]) {
+pub(crate) fn step(to: &impl Print, bytes: &[u8]) -> io::Result<()> {
     let mut map = numbered();
     let mut texts = digits();
     let mut out = [0u8; ROOM];
@@ -95,9 +105,9 @@ pub(crate) fn step(bytes: &[u8]) {
         rest(bytes, 1),
         &mut out,
     );
-    show(b"{1 silence}~1 reply+1}", r, &out);
-    changes(&map);
-    changed_texts(&texts);
+    show(to, b"{1 silence}~1 reply+1}", r, &out)?;
+    changes(to, &map)?;
+    changed_texts(to, &texts)
 }
 
 // The whole part of a number from 0 to below 2^64.
@@ -111,47 +121,47 @@ fn whole(x: f64) -> u64 {
 }
 
 // A number of tenths in a form of its whole part and of its decimal.
-fn tenths(form: &[u8], x: f64) {
+fn tenths(to: &impl Print, form: &[u8], x: f64) -> io::Result<()> {
     let n = whole(x);
-    fill_in(form, n / 10 + n % 10 * 65536);
+    fill_in(to, form, n / 10 + n % 10 * 65536)
 }
 
-fn signed_tenths(x: f64) {
+fn signed_tenths(to: &impl Print, x: f64) -> io::Result<()> {
     if x < 0.0 {
-        tenths(b" -&0.%2", 0.0 - x);
+        tenths(to, b" -&0.%2", 0.0 - x)
     } else {
-        tenths(b" &0.%2", x);
+        tenths(to, b" &0.%2", x)
     }
 }
 
 // A line of the temperature table: byte, degrees Celsius, degrees Fahrenheit.
-fn temperature(byte: u8) {
-    fill_in(b"\n%0", wide(byte));
+fn temperature(to: &impl Print, byte: u8) -> io::Result<()> {
+    fill_in(to, b"\n%0", wide(byte))?;
     let degrees = std::num::f32_to_f64_with_nan(host::model::temperature_celsius(byte));
-    signed_tenths(degrees * 10.0);
-    signed_tenths(host::model::temperature_fahrenheit_tenths(byte) as f64);
+    signed_tenths(to, degrees * 10.0)?;
+    signed_tenths(to, host::model::temperature_fahrenheit_tenths(byte) as f64)
 }
 
 // The temperature of each byte.
-pub(crate) fn temperatures() {
+pub(crate) fn temperatures(to: &impl Print) -> io::Result<()> {
     let mut byte: u8 = 0;
     while byte < LAST_BYTE {
-        temperature(byte);
+        temperature(to, byte)?;
         byte += 1;
     }
-    temperature(LAST_BYTE);
+    temperature(to, LAST_BYTE)
 }
 
 // A cost word, high byte first.
-fn cost_word(bytes: &[u8]) -> u16 {
+fn cost_word(to: &impl Print, bytes: &[u8]) -> io::Result<u16> {
     let word = long(bytes) % 65536;
-    fill_in(b" word &0,", word);
-    word as u16
+    fill_in(to, b" word &0,", word)?;
+    Ok(word as u16)
 }
 
-pub(crate) fn cost(bytes: &[u8]) {
-    let r = host::cost::cost_millionths(cost_word(bytes));
-    show(b" millionths *1", r, bytes);
+pub(crate) fn cost(to: &impl Print, bytes: &[u8]) -> io::Result<()> {
+    let r = host::cost::cost_millionths(cost_word(to, bytes)?);
+    show(to, b" millionths *1", r, bytes)
 }
 
 // The answer of a tally with this total to a meter reply.
@@ -162,14 +172,14 @@ fn tallied(total: u64, reply: &[u8]) -> Added
     tally::add_reply(&mut t, reply)
 }
 
-fn added(a: Added) {
+fn added(to: &impl Print, a: Added) -> io::Result<()> {
     match a {
-        Added::Total(n) => fill_in(b" total *0", n),
-        Added::Refused(r) => fill_in(b" refused %0", answer::number(r)),
+        Added::Total(n) => fill_in(to, b" total *0", n),
+        Added::Refused(r) => fill_in(to, b" refused %0", answer::number(r)),
     }
 }
 
 // A total of eight bytes, then a meter reply.
-pub(crate) fn meter(bytes: &[u8]) {
-    added(tallied(long(first(bytes, 8)), rest(bytes, 8)));
+pub(crate) fn meter(to: &impl Print, bytes: &[u8]) -> io::Result<()> {
+    added(to, tallied(long(first(bytes, 8)), rest(bytes, 8)))
 }

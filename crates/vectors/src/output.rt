@@ -1,50 +1,50 @@
 // Printing texts, numbers, bytes and answers.
-use crate::input::{byte, first, rest, wide};
-
-const STDOUT: i32 = 1;
+use crate::reading::{byte, first, rest, wide};
+use std::io;
 
 // More than the choices that a form has.
 const PASSED: u64 = 1000;
 
-pub(crate) fn text(words: &[u8]) {
-    io::write_all(STDOUT, words);
+pub(crate) fn text(to: &impl Print, words: &[u8]) -> io::Result<()> {
+    to.write_all(words)
 }
 
-fn character(c: u8) {
+fn character(to: &impl Print, c: u8) -> io::Result<()> {
     let one = [c];
-    io::write_all(STDOUT, &one);
+    to.write_all(&one)
 }
 
-pub(crate) fn number(n: u64) {
-    io::print_decimal(STDOUT, n);
+pub(crate) fn number(to: &impl Print, n: u64) -> io::Result<()> {
+    to.print(n)
 }
 
 // A hex digit, and on past F.
-fn letter(n: u64) {
+fn letter(to: &impl Print, n: u64) -> io::Result<()> {
     if n < 10 {
-        number(n);
+        number(to, n)
     } else {
-        character(b'A' + ((n - 10) % 26) as u8);
+        character(to, b'A' + ((n - 10) % 26) as u8)
     }
 }
 
-fn hex(b: u64) {
-    letter(b / 16);
-    letter(b % 16);
+fn hex(to: &impl Print, b: u64) -> io::Result<()> {
+    letter(to, b / 16)?;
+    letter(to, b % 16)
 }
 
-fn item(b: u8) {
-    character(b' ');
-    hex(wide(b));
+fn item(to: &impl Print, b: u8) -> io::Result<()> {
+    character(to, b' ')?;
+    hex(to, wide(b))
 }
 
 // Bytes in hex, each after a blank.
-fn list(bytes: &[u8]) {
+fn list(to: &impl Print, bytes: &[u8]) -> io::Result<()> {
     let mut i = 0;
     while i < bytes.len() {
-        item(bytes[i]);
+        item(to, bytes[i])?;
         i += 1;
     }
+    Ok(())
 }
 
 // An answer from its byte i on; i is a number or its digit.
@@ -58,39 +58,39 @@ pub(crate) fn field(answer: u64, i: u8) -> u64 {
 }
 
 // So many bytes from a place on.
-fn values(bytes: &[u8], at: usize, count: u64) {
-    list(first(rest(bytes, at), count as usize));
+fn values(to: &impl Print, bytes: &[u8], at: usize, count: u64) -> io::Result<()> {
+    list(to, first(rest(bytes, at), count as usize))
 }
 
 // A character of a form that stands behind no mark: itself, unless it is one.
-fn plain(c: u8) {
+fn plain(to: &impl Print, c: u8) -> io::Result<()> {
     match c {
-        b'!'..=b'+' | b'@' | b'{'..=b'~' => {}
-        _ => character(c),
+        b'!'..=b'+' | b'@' | b'{'..=b'~' => Ok(()),
+        _ => character(to, c),
     }
 }
 
 // A character of a form, behind the one before it, if that is no mark of the answer.
-fn listed(before: u8, c: u8, answer: u64, bytes: &[u8]) {
+fn listed(to: &impl Print, before: u8, c: u8, answer: u64, bytes: &[u8]) -> io::Result<()> {
     match before {
-        b'\'' => number(wide(byte(bytes, (c % 8) as usize))),
-        b'$' => values(bytes, 3, field(answer, c)),
-        b'!' => values(bytes, 2, field(answer, c)),
-        b'+' => values(bytes, 0, from(answer, c)),
-        b'{' | b'~' => {}
-        _ => plain(c),
+        b'\'' => number(to, wide(byte(bytes, (c % 8) as usize))),
+        b'$' => values(to, bytes, 3, field(answer, c)),
+        b'!' => values(to, bytes, 2, field(answer, c)),
+        b'+' => values(to, bytes, 0, from(answer, c)),
+        b'{' | b'~' => Ok(()),
+        _ => plain(to, c),
     }
 }
 
 // A character of a form, behind the one before it.
-fn filled(before: u8, c: u8, answer: u64, bytes: &[u8]) {
+fn filled(to: &impl Print, before: u8, c: u8, answer: u64, bytes: &[u8]) -> io::Result<()> {
     match before {
-        b'%' => number(field(answer, c)),
-        b'#' => hex(field(answer, c)),
-        b'&' => number(from(answer, c) % 65536),
-        b'*' => number(from(answer, c)),
-        b'@' => letter(10 + field(answer, c) % 16),
-        _ => listed(before, c, answer, bytes),
+        b'%' => number(to, field(answer, c)),
+        b'#' => hex(to, field(answer, c)),
+        b'&' => number(to, from(answer, c) % 65536),
+        b'*' => number(to, from(answer, c)),
+        b'@' => letter(to, 10 + field(answer, c) % 16),
+        _ => listed(to, before, c, answer, bytes),
     }
 }
 
@@ -126,7 +126,7 @@ fn passed(left: u64, before: u8, c: u8, answer: u64) -> u64 {
 //   %N byte N of the answer in decimal, #N in hex, @N as the letter of a house; &N the 16 bits from there on, *N all of it from there on
 //   'N byte N of the bytes; $N and !N so many of them as byte N of the answer says, from 3 and from 2 on; +N as *N says, from 0 on
 //   {N..|..} the choice that byte N of the answer numbers, from 0 on; ~N..} what is printed unless that is 0
-fn fill(form: &[u8], answer: u64, bytes: &[u8]) {
+fn fill(to: &impl Print, form: &[u8], answer: u64, bytes: &[u8]) -> io::Result<()> {
     let mut before = b' ';
     let mut left = 0;
     let mut i = 0;
@@ -134,23 +134,24 @@ fn fill(form: &[u8], answer: u64, bytes: &[u8]) {
         let c = form[i];
         left = passed(left, before, c, answer);
         if left == 0 {
-            filled(before, c, answer, bytes);
+            filled(to, before, c, answer, bytes)?;
         }
         before = c;
         i += 1;
     }
+    Ok(())
 }
 
 // Prints a form of a number, with none of the bytes.
-pub(crate) fn fill_in(form: &[u8], n: u64) {
-    fill(form, n, form);
+pub(crate) fn fill_in(to: &impl Print, form: &[u8], n: u64) -> io::Result<()> {
+    fill(to, form, n, form)
 }
 
 // An answer to bytes: in a form, or the number of a refusal.
-pub(crate) fn show(form: &[u8], answer: u64, bytes: &[u8]) {
+pub(crate) fn show(to: &impl Print, form: &[u8], answer: u64, bytes: &[u8]) -> io::Result<()> {
     if answer % 256 == 0 {
-        fill(form, answer, bytes);
+        fill(to, form, answer, bytes)
     } else {
-        fill(b" refused %0", answer, bytes);
+        fill(to, b" refused %0", answer, bytes)
     }
 }

@@ -1,6 +1,7 @@
 // The calls that write Omni-Link frames and messages and Omnistat2 messages.
-use crate::input::{byte, rest};
 use crate::output::show;
+use crate::reading::{byte, rest};
+use std::io;
 
 // More than a frame or a message has.
 const ROOM: usize = 80;
@@ -63,7 +64,7 @@ fn write_to(call: u64, first: u8, second: u8, one: &[u8], two: &[u8], out: &mut 
     }
 }
 
-pub(crate) fn write(call: u64, b: &[u8]) {
+pub(crate) fn write(to: &impl Print, call: u64, b: &[u8]) -> io::Result<()> {
     let mut out = [0u8; ROOM];
     let r = write_to(
         call,
@@ -73,5 +74,5 @@ pub(crate) fn write(call: u64, b: &[u8]) {
         rest(b, 2),
         &mut out,
     );
-    show(b"+1", r, &out);
+    show(to, b"+1", r, &out)
 }
