@@ -1,5 +1,5 @@
 -- Document 01, "Omni-Link frames": reading and writing.
-use Rattle.std.specs.Prelude.{ℕ, ◌+◌, ◌-◌, ◌*◌, ◌/◌, ◌%◌, Bool, true, false, not, cond, List, [], ◌∷◌, ◌++◌, eqb, ltb, leb, length, get_or, take, drop}
+use Rattle.std.specs.Prelude.{ℕ, ◌+◌, ◌-◌, ◌*◌, ◌/◌, ◌%◌, not, cond, List, [], ◌∷◌, ◌++◌, eqb, ltb, leb, length, get_or, take, drop}
 use Rattle.answer.specs.Answer.{Outcome, refused, accepted, refuse_if, number_of}
 use Rattle.crc.specs.Crc.{crc}
 use Rattle.link.specs.declared.frame.FrameRead.{FrameRead}

@@ -1,7 +1,7 @@
 -- Document 02, K3: a capture as the port delivers it, in pieces, and the finishing call.
 use Rattle.std.specs.Prelude.{ℕ, zero, suc, ◌+◌, ◌-◌, ◌*◌, ◌<◌, ◌≤◌, cond, not, List, [], ◌∷◌, ◌++◌, ◌≡◌, ltb, length, get_or}
 use Rattle.answer.specs.Answer.{Outcome, refused, accepted, refuse_if, on_accepted, and_then, in_room}
-use Rattle.link.specs.Frame.{Frame, read_first, size}
+use Rattle.link.specs.Frame.{read_first, size}
 use Rattle.listing.specs.Lines.{Line, frame, judged, after_noise, lines_from}
 use Rattle.listing.specs.Text.{text, longest}
 use Rattle.listing.specs.State.{State, as_state, unread_at, settled, state_of, state_bytes, is_state, fresh}

@@ -1,11 +1,8 @@
 -- Document 01, "Omni-Link messages": the types that carry a list, 16, 23 and 25, and their items.
 use Rattle.std.specs.Prelude.{ℕ, ◌+◌, ◌*◌, ◌/◌, ◌%◌, Bool, true, cond, not, ◌&&◌, List, [], ◌∷◌, eqb, ltb}
 use Rattle.message.specs.declared.lists.Condition.{Condition}
-use Rattle.message.specs.declared.lists.Condition.TheVariants as Condition
 use Rattle.message.specs.declared.lists.LatchedAlarm.{LatchedAlarm}
-use Rattle.message.specs.declared.lists.LatchedAlarm.TheVariants as LatchedAlarm
 use Rattle.message.specs.declared.lists.Arming.{Arming}
-use Rattle.message.specs.declared.lists.Arming.TheVariants as Arming
 use Rattle.message.specs.declared.lists.Zone.{Zone}
 use Rattle.message.specs.declared.lists.TextMessage.{TextMessage}
 

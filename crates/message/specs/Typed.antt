@@ -6,11 +6,8 @@ use Rattle.link.specs.Frame.{Frame}
 use Rattle.message.specs.Lists.{zone_status_type, events_type, message_status_type, zones, words, texts}
 use Rattle.message.specs.Message.{Message, fixed, zone_status, events, message_status, counted, write_message}
 use Rattle.message.specs.declared.lists.Condition.{Condition}
-use Rattle.message.specs.declared.lists.Condition.TheVariants as Condition
 use Rattle.message.specs.declared.lists.LatchedAlarm.{LatchedAlarm}
-use Rattle.message.specs.declared.lists.LatchedAlarm.TheVariants as LatchedAlarm
 use Rattle.message.specs.declared.lists.Arming.{Arming}
-use Rattle.message.specs.declared.lists.Arming.TheVariants as Arming
 use Rattle.message.specs.declared.lists.Zone.{Zone}
 use Rattle.message.specs.declared.lists.TextMessage.{TextMessage}
 use Rattle.message.specs.declared.log.LogEntry.{LogEntry}

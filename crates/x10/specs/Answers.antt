@@ -1,5 +1,5 @@
 -- What the code's answers say in the paper's terms, and how an accepted pattern is packed for C.
-use Rattle.std.specs.Prelude.{ℕ, List, [], ◌∷◌}
+use Rattle.std.specs.Prelude.{List, [], ◌∷◌}
 use Rattle.answer.specs.Answer.{Outcome, refused, accepted, number_of}
 use Rattle.answer.specs.Packed.{Field, byte}
 use Rattle.x10.specs.declared.Pattern.{Pattern}

@@ -4,11 +4,10 @@ use mathlib.Core.List.{List, [], ◌∷◌, ◌++◌, append_assoc}
 use Prim.Native.Nat.{ℕ, suc, ◌+◌, ◌≤◌, ◌<◌}
 use native.Mathlib.Numerals.{add-one}
 use native.Mathlib.Omega.{arith}
-use lib.Dec.{ltb}
 use lib.ListN.{length, get_or, take, drop, set, length-append, length-drop}
 use lib.Seq.{set_at, take_at, get_or-append-add, get_or-drop, drop-cons}
 use borrow.Author.Tests.{lt-ltb, le-ltb}
-use Rattle.answer.specs.Answer.{Outcome, refused, accepted, in_room, out_after, refuse_if, and_then}
+use Rattle.answer.specs.Answer.{refused, accepted, in_room, out_after}
 
 -- the output after the bytes xs have been written from its start
 abbrev pub begun : List ℕ → List ℕ → List ℕ

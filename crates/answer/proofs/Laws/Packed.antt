@@ -1,8 +1,8 @@
 -- A packed answer taken apart again, as a C host does: the number is its low byte, and each field stands above those before it. An answer
 -- packed from another's. Assumes nothing.
-use mathlib.Core.Path.{◌≡◌, refl, ap, ◌∙◌}
+use mathlib.Core.Path.{◌≡◌, ap, ◌∙◌}
 use mathlib.Core.List.{List, [], ◌∷◌, ◌++◌}
-use Prim.Native.Nat.{ℕ, zero, ◌+◌, ◌*◌, ◌/◌, ◌%◌, ◌^◌, ◌<◌}
+use Prim.Native.Nat.{ℕ, ◌+◌, ◌*◌, ◌/◌, ◌%◌, ◌^◌, ◌<◌}
 use native.Mathlib.Nat.{zero-add, add-mul-div_left, div-eq_of_lt, div-div-eq-div-mul, add-mul-mod_self_left, mod-eq_of_lt, mul-mod_right, mul-div_right}
 use native.Mathlib.Omega.{arith}
 use lib.Pow.{pow_pos, pow-add}

@@ -1,7 +1,7 @@
 -- Condition 3 holds. Assumes nothing.
 use mathlib.Core.Path.{◌≡◌, refl, sym, ap, ◌∙◌}
-use mathlib.Core.Bool.{Bool, xor}
-use mathlib.Core.List.{List, [], ◌∷◌, ◌++◌}
+use mathlib.Core.Bool.{xor}
+use mathlib.Core.List.{List, ◌∷◌}
 use Prim.Native.Nat.{ℕ, ◌+◌, ◌*◌, ◌≤◌}
 use native.Mathlib.Omega.{arith}
 use lib.Dec.{T}
@@ -14,8 +14,8 @@ use Rattle.crc.specs.Places.{Apart}
 use Rattle.crc.proofs.Laws.Bits.{bit_string-length, byte_at, drop_bytes}
 use Rattle.crc.proofs.Laws.Distance.{apart, residue, same_bytes}
 use Rattle.link.specs.Frame.{Frame, read_frame, read_body, body}
-use Rattle.link.specs.Distance.{differing, acknowledge, nearest, Condition3}
-use Rattle.link.proofs.Laws.Whole.{Whole, whole, shape, from_start, counted, covers}
+use Rattle.link.specs.Distance.{differing, Condition3}
+use Rattle.link.proofs.Laws.Whole.{Whole, whole, shape, from_start, covers}
 
 -- the CRC register takes an accepted frame to 0
 module _ (s : List ℕ) (f : Frame) (bytes : T (are_bytes s)) (e : read_frame s ≡ accepted f) where

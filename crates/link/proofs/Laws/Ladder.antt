@@ -1,17 +1,17 @@
 -- The reader's and the writer's answers, a law for each: the facts that lead to it. Assumes nothing.
-use mathlib.Core.Path.{◌≡◌, refl, sym, ap, ap₂, ◌∙◌}
-use mathlib.Core.Bool.{Bool, true, false, not}
+use mathlib.Core.Path.{◌≡◌, refl, sym, ap, ◌∙◌}
+use mathlib.Core.Bool.{Bool, true, false}
 use mathlib.Core.List.{List}
 use Prim.Native.Nat.{ℕ, ◌+◌, ◌-◌, ◌<◌, ◌≤◌}
 use lib.Dec.{eqb}
 use native.Mathlib.Omega.{arith}
 use lib.ListN.{length, get_or, take, drop, length-append, length-take, length-drop}
 use borrow.Author.Tests.{eq-eqb, ne_eqb, lt-ltb, le-ltb}
-use Rattle.answer.specs.Answer.{Outcome, refused, accepted, on_accepted, in_room}
+use Rattle.answer.specs.Answer.{refused, accepted, on_accepted, in_room}
 use Rattle.answer.proofs.Laws.Output.{no_room, with_room}
 use Rattle.answer.proofs.Laws.Test.{not_accepted}
 use Rattle.crc.specs.Crc.{crc}
-use Rattle.link.specs.Frame.{Frame, header, covered, sent, read_body, read_frame, frame_bytes, write_frame}
+use Rattle.link.specs.Frame.{header, covered, sent, read_body, read_frame, frame_bytes, write_frame}
 
 module _ (s : List ℕ) where
   pub empty : length s ≡ 0 → read_frame s ≡ refused 1

@@ -8,13 +8,13 @@ use lib.ListN.{length, get_or, take, drop}
 use lib.Pow.{are_bytes}
 use lib.Seq.{take_at, get_or_at, get_or-append-add}
 use borrow.Author.Tests.{eq-eqb, ltb-false, le-ltb}
-use Rattle.answer.specs.Answer.{Outcome, refused, accepted, on_accepted}
+use Rattle.answer.specs.Answer.{accepted, on_accepted}
 use Rattle.answer.proofs.Laws.Test.{passed}
 use Rattle.crc.specs.Crc.{crc}
 use Rattle.crc.proofs.Laws.Bits.{byte_at}
 use Rattle.link.specs.Frame.{Frame, covered, sent, read_frame, body, frame_bytes, write_frame}
 use Rattle.link.proofs.Laws.Ladder.{by_length, whole_frame, frame-length}
-use Rattle.link.proofs.Laws.Whole.{Whole, whole, shape, from_start, counted, few, covers}
+use Rattle.link.proofs.Laws.Whole.{Whole, whole, shape, from_start, few, covers}
 
 module _ (kind : ℕ) (d : List ℕ) where
   carried : sent (frame_bytes kind d) (length d + 1) ≡ crc (body kind d)

@@ -1,15 +1,15 @@
 -- What the reader's acceptance says about the bytes. Assumes nothing.
 use mathlib.Core.Path.{◌≡◌, refl, sym, ap, ap₂, subst⁻¹, ◌∙◌}
-use mathlib.Core.Bool.{Bool, true, false, not, cond}
+use mathlib.Core.Bool.{Bool, not, cond}
 use mathlib.Core.List.{List, [], ◌∷◌, ◌++◌}
-use Prim.Native.Nat.{ℕ, zero, suc, ◌+◌, ◌-◌, ◌*◌, ◌<◌, ◌≤◌}
+use Prim.Native.Nat.{ℕ, zero, suc, ◌+◌, ◌-◌, ◌≤◌}
 use native.Mathlib.Omega.{arith}
 use lib.Dec.{T, eqb, ltb}
 use lib.ListN.{length, get_or, take, drop, length-take, length-drop}
 use lib.Pow.{are_bytes}
 use lib.Seq.{take_at}
 use borrow.Author.Tests.{eqb-true, eqb-false, ltb-false, not-false, le-leb}
-use Rattle.answer.specs.Answer.{Outcome, refused, accepted, refuse_if}
+use Rattle.answer.specs.Answer.{accepted}
 use Rattle.answer.proofs.Laws.Test.{passed}
 use Rattle.crc.specs.Crc.{crc}
 use Rattle.crc.proofs.Laws.Bits.{take_bytes, drop_bytes}

@@ -1,12 +1,12 @@
 -- What the writer's stores leave in the output. Assumes nothing.
 use mathlib.Core.Path.{◌≡◌, refl, sym, ap, ap₂, ◌∙◌}
-use mathlib.Core.List.{List, [], ◌∷◌, ◌++◌, append_assoc, append-nil}
-use Prim.Native.Nat.{ℕ, suc, ◌+◌, ◌-◌, ◌/◌, ◌%◌, ◌<◌, ◌≤◌}
+use mathlib.Core.List.{List, [], ◌∷◌, ◌++◌, append_assoc}
+use Prim.Native.Nat.{ℕ, suc, ◌+◌, ◌-◌, ◌/◌, ◌%◌, ◌≤◌}
 use native.Mathlib.Nat.{add_comm}
 use native.Mathlib.Numerals.{add-three}
 use native.Mathlib.Omega.{arith}
-use lib.ListN.{length, take, drop, set, length-append, length-take, drop_of_length-le}
-use lib.Seq.{take-length, take_at, drop-drop}
+use lib.ListN.{length, take, drop, set, length-append}
+use lib.Seq.{take_at, drop-drop}
 use Rattle.answer.specs.Answer.{accepted, out_after}
 use Rattle.answer.proofs.Laws.Output.{begun, put_next}
 use Rattle.crc.specs.Crc.{crc}

@@ -21,11 +21,8 @@ use Rattle.message.specs.declared.command.Command.{Command}
 use Rattle.message.specs.declared.command.Command.TheVariants.{Off, On, AllOff, AllOn, Level, Decrement, Increment, SetCounter}
 use Rattle.message.specs.declared.log.LogEntry.{LogEntry}
 use Rattle.message.specs.declared.lists.Condition.{Condition}
-use Rattle.message.specs.declared.lists.Condition.TheVariants as Condition
 use Rattle.message.specs.declared.lists.LatchedAlarm.{LatchedAlarm}
-use Rattle.message.specs.declared.lists.LatchedAlarm.TheVariants as LatchedAlarm
 use Rattle.message.specs.declared.lists.Arming.{Arming}
-use Rattle.message.specs.declared.lists.Arming.TheVariants as Arming
 use Rattle.message.specs.declared.lists.Zone.{Zone}
 use Rattle.message.specs.declared.lists.TextMessage.{TextMessage}
 use Rattle.message.specs.declared.message.Fixed.{Fixed}

@@ -14,11 +14,8 @@ use Rattle.message.specs.Command.{duration_listed, command_listed, command_of}
 use Rattle.message.specs.Lists.{zone_of, zone_listed, zones_listed, text_of, zones, words, texts}
 use Rattle.message.specs.Typed.{parameters, command_bytes, condition_bits, latched_bits, arming_bits, status_byte, zone_bytes, event_bytes, text_bits, text_bytes}
 use Rattle.message.specs.declared.lists.Condition.{Condition}
-use Rattle.message.specs.declared.lists.Condition.TheVariants as Condition
 use Rattle.message.specs.declared.lists.LatchedAlarm.{LatchedAlarm}
-use Rattle.message.specs.declared.lists.LatchedAlarm.TheVariants as LatchedAlarm
 use Rattle.message.specs.declared.lists.Arming.{Arming}
-use Rattle.message.specs.declared.lists.Arming.TheVariants as Arming
 use Rattle.message.proofs.Laws.Checked.{both}
 use Rattle.message.proofs.Laws.Duration.{p1_after_duration}
 

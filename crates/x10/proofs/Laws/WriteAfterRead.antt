@@ -8,11 +8,11 @@ use lib.Dec.{eqb, ltb}
 use lib.ListN.{length, take, drop, take-append-drop}
 use lib.Seq.{slice, length-take-le, take-take, take_all, drop-append-le}
 use borrow.Author.Tests.{ltb-false, eqb-true, eqb-false, not-false}
-use Rattle.answer.specs.Answer.{Outcome, refused, accepted, refuse_if, and_then}
+use Rattle.answer.specs.Answer.{Outcome, accepted, refuse_if, and_then}
 use Rattle.x10.specs.declared.Function.{Function}
 use Rattle.x10.specs.declared.Function.TheVariants.{On}
 use Rattle.x10.specs.Codes.{code_at, index_of, house_code, unit_code, function_of, extended1}
-use Rattle.x10.specs.Places.{are_places, start_code, starts_with, paired, bits, spelled}
+use Rattle.x10.specs.Places.{are_places, start_code, starts_with, spelled}
 use Rattle.x10.specs.Pattern.{Message, unit, function, extended, ending, read_rest, read_function, read_key, read, standard, extension, write}
 use Rattle.x10.proofs.Laws.Bits.{and_left, and_right, part_back}
 use Rattle.x10.proofs.Laws.Codes.{code_at_index, index_small, found_code}

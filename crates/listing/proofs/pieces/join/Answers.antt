@@ -1,7 +1,3 @@
-use Prim.Native.Nat.{◌+◌, ◌-◌}
-use lib.ListN.{length}
-use mathlib.Core.Path.{◌∙◌}
-use native.Mathlib.Omega.{arith}
 use Rattle.listing.proofs.Laws.Output.{two_parts}
 use Rattle.listing.proofs.pieces.join.Goals as goal
 

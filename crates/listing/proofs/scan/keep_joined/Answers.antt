@@ -1,4 +1,4 @@
-use Prim.Native.Nat.{ℕ, ◌+◌, ◌*◌, ◌<◌, ◌≤◌}
+use Prim.Native.Nat.{ℕ, ◌+◌, ◌<◌}
 use lib.ListN.{length, set, length-set}
 use mathlib.Core.List.{List}
 use mathlib.Core.Path.{◌≡◌, refl, sym, subst⁻¹, ◌∙◌}
@@ -6,7 +6,7 @@ use native.Mathlib.Omega.{arith}
 use Rattle.listing.proofs.Laws.Found.{found_quiet, found_place, found_frame}
 use Rattle.listing.proofs.Laws.Frames.{inside, judged_none, judged_some}
 use Rattle.listing.proofs.Laws.Places.{quiet_none, quiet_more}
-use Rattle.listing.specs.Parts.{offset_in, behind, Stands, Found}
+use Rattle.listing.specs.Parts.{offset_in, behind, Found}
 use Rattle.listing.proofs.scan.keep_joined.Invariants.{Keeping}
 use Rattle.listing.proofs.scan.keep_joined.Goals as goal
 

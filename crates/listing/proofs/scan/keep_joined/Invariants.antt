@@ -1,9 +1,8 @@
 use Prim.Native.Nat.{ℕ, ◌+◌, ◌*◌, ◌<◌, ◌≤◌, ◌-◌}
-use lib.ListN.{length, set, length-set}
+use lib.ListN.{length}
 use mathlib.Core.List.{List}
-use mathlib.Core.Path.{◌≡◌, refl, sym, subst⁻¹, ◌∙◌}
-use native.Mathlib.Omega.{arith}
-use Rattle.listing.specs.Parts.{offset_in, behind, Stands, Found}
+use mathlib.Core.Path.{◌≡◌}
+use Rattle.listing.specs.Parts.{offset_in, Stands, Found}
 use Rattle.listing.proofs.scan.keep_joined.Given as goal
 
 -- what holds before each frame is kept

@@ -1,11 +1,9 @@
 use Prim.Native.Nat.{ℕ, ◌+◌, ◌-◌, ◌*◌, ◌<◌, ◌≤◌}
-use lib.ListN.{length, take, drop, length-append, length-drop}
-use lib.Seq.{take_all, length-take-le, drop-drop}
+use lib.ListN.{length, take, drop}
 use mathlib.Core.Bool.{false}
-use mathlib.Core.List.{List, ◌++◌}
-use mathlib.Core.Path.{◌≡◌, refl, sym, ap, subst, subst⁻¹, ◌∙◌}
-use native.Mathlib.Omega.{arith}
-use Rattle.listing.specs.Parts.{last_end, Settles, Ends}
+use mathlib.Core.List.{List}
+use mathlib.Core.Path.{◌≡◌}
+use Rattle.listing.specs.Parts.{Ends}
 use Rattle.listing.specs.State.{settled}
 use Rattle.listing.proofs.settle.end.Given as goal
 

@@ -1,17 +1,8 @@
 use Prim.Native.Nat.{ℕ, ◌+◌, ◌-◌, ◌*◌, ◌<◌, ◌≤◌}
-use borrow.Author.Tests.{eqb-true, eqb-false}
-use lib.Dec.{eqb}
-use lib.ListN.{length, get_or, take, drop, set, length-set}
-use lib.Seq.{take-suc-set, length-take-le}
-use mathlib.Core.Bool.{Bool, true, false}
-use mathlib.Core.List.{List, ◌∷◌, [], ◌++◌}
-use mathlib.Core.Path.{◌≡◌, refl, sym, ap, subst, subst⁻¹, ◌∙◌}
-use native.Mathlib.Numerals.{add-one}
-use native.Mathlib.Omega.{arith}
-use Rattle.answer.specs.Answer.{accepted}
-use Rattle.link.specs.Frame.{read_first, size}
-use Rattle.listing.specs.Parts.{judgement, offset_in, count_in, kind_in, behind, Stands, Settles}
-use Rattle.listing.specs.State.{settled}
+use lib.ListN.{length, take}
+use mathlib.Core.List.{List}
+use mathlib.Core.Path.{◌≡◌}
+use Rattle.listing.specs.Parts.{Settles}
 use Rattle.listing.proofs.settle.settle.Given as goal
 
 -- the frames kept of the places judged
