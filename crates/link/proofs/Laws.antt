@@ -1,5 +1,6 @@
 -- The laws, a file for each subject.
 pub mod Bytes
+pub mod Copying
 pub mod Distance
 pub mod First
 pub mod Ladder

@@ -4,6 +4,7 @@ ghost use Rattle.answer.specs.Answer.{accepted, on_accepted, in_room, out_after,
 ghost use Rattle.crc.specs.Crc.{crc};
 ghost use Rattle.link.specs.Frame.{read_frame, read_first, write_frame, frame_bytes, header, outcome_of, data_part, covered, sent};
 
+use crate::copying::copy;
 use answer::{Refusal, Written};
 
 pub const START: u8 = 0x5A;
@@ -120,7 +121,7 @@ fn put_data(data: &[u8], out: &mut [u8])
     ensures { out.new ≡ take 3 out.old ++ «data».now ++ drop (length «data».now + 3) out.old }
 {
     let end = data.len() + 3;
-    out[3..end].copy_from_slice(data);
+    copy(data, &mut out[3..end]);
 }
 
 // Writes the CRC of a frame with length byte l, low byte first.

@@ -2,4 +2,5 @@
 // CRC high byte.
 #![tactic(auto)]
 
+pub mod copying; // bytes copied into lent memory
 pub mod frame;

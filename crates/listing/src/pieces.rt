@@ -9,6 +9,7 @@ ghost use Rattle.listing.specs.Parts.{Within, Settles, closed};
 use crate::scan::Reached;
 use crate::{MAX_CAPTURE, MAX_FRAMES, lines, settle, state};
 use answer::{Refusal, Written};
+use link::copying::copy;
 
 // Most bytes of a piece that it takes to settle the places of the unread bytes: a frame has at most 69.
 const AHEAD: usize = 68;
@@ -45,8 +46,8 @@ fn join(unread: &[u8], piece: &[u8], window: &mut [u8])
 {
     let held = unread.len();
     let end = held + piece.len();
-    window[..held].copy_from_slice(unread);
-    window[held..end].copy_from_slice(piece);
+    copy(unread, &mut window[..held]);
+    copy(piece, &mut window[held..end]);
 }
 
 // Judges the unread bytes and a piece behind them as far as they are settled. The places of the unread bytes are judged in the window;

@@ -5,6 +5,7 @@ ghost use Rattle.listing.specs.State.{as_state, possible, zeros, all_zero, word,
 
 use crate::MAX_CAPTURE;
 use crate::place::is_settled;
+use link::copying::copy;
 
 const SIZE: usize = 74;
 
@@ -141,7 +142,7 @@ pub(crate) fn put(state: &mut [u8], came: usize, run: usize, unread: &[u8])
     state[RUN + 1] = (run % 256) as u8;
     state[COUNT] = unread.len() as u8;
     let end = UNREAD + unread.len();
-    state[UNREAD..end].copy_from_slice(unread);
+    copy(unread, &mut state[UNREAD..end]);
 }
 
 // Puts a piece behind the unread bytes, where no place of them is judged.
@@ -158,7 +159,7 @@ pub(crate) fn append(state: &mut [u8], piece: &[u8])
     state[CAME] = (total / 256) as u8;
     state[CAME + 1] = (total % 256) as u8;
     state[COUNT] = (count + piece.len()) as u8;
-    state[from..end].copy_from_slice(piece);
+    copy(piece, &mut state[from..end]);
 }
 
 // Counts so many bytes of noise, where nothing is unread.

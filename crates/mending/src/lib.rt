@@ -9,6 +9,7 @@ ghost use Rattle.mending.specs.Mending.{Mended, flipped_at, place, mend_in_room,
 ghost use Rattle.mending.specs.Parts.{place_of};
 
 use answer::Refusal;
+use link::copying::copy;
 use link::frame::FrameRead;
 
 // The number of the frame reader's refusal for a wrong CRC.
@@ -49,7 +50,7 @@ fn put_flipped(bytes: &[u8], p: usize, out: &mut [u8])
     requires bytes_in_bounds { length bytes.now ≤ length out.old }
     ensures { out.new ≡ out_after (accepted (flipped_at bytes.now p)) out.old }
 {
-    out[..bytes.len()].copy_from_slice(bytes);
+    copy(bytes, out);
     let i = p / 8 + 1;
     out[i] = out[i] ^ 1 << p % 8;
 }

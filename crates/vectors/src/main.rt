@@ -6,7 +6,7 @@
 
 mod captures; // the listing, of a whole capture and in pieces
 mod damaged; // damaged Omni-Link frames, mended
-mod door; // the login door
+mod login; // the login door
 mod model; // the model thermostat, temperatures, cost words and meter replies
 mod omnilink; // Omni-Link frames and messages, read
 mod omnistat2; // Omnistat2 messages, read
@@ -79,7 +79,7 @@ fn answer_call(to: &impl Print, call: u64, bytes: &[u8]) -> io::Result<()> {
         10..=12 => patterns::write(to, call, bytes),
         13..=19 => writers::write(to, call, bytes),
         20 => captures::cut(to, bytes),
-        21 => door::step(to, bytes),
+        21 => login::step(to, bytes),
         22 => damaged::mend(to, bytes),
         _ => Ok(()),
     }

@@ -1,12 +1,12 @@
 -- What the writer's stores leave in the output. Assumes nothing.
 use mathlib.Core.Path.{◌≡◌, refl, sym, ap, ap₂, ◌∙◌}
-use mathlib.Core.List.{List, [], ◌∷◌, ◌++◌, append_assoc}
+use mathlib.Core.List.{List, [], ◌∷◌, ◌++◌, append_assoc, append-nil}
 use Prim.Native.Nat.{ℕ, suc, ◌+◌, ◌-◌, ◌/◌, ◌%◌, ◌≤◌}
 use native.Mathlib.Nat.{add_comm}
 use native.Mathlib.Numerals.{add-three}
 use native.Mathlib.Omega.{arith}
-use lib.ListN.{length, take, drop, set, length-append}
-use lib.Seq.{take_at, drop-drop}
+use lib.ListN.{length, take, drop, set, length-append, length-take, drop_of_length-le}
+use lib.Seq.{take-length, take_at, drop-drop}
 use Rattle.answer.specs.Answer.{accepted, out_after}
 use Rattle.answer.proofs.Laws.Output.{begun, put_next}
 use Rattle.crc.specs.Crc.{crc}
@@ -20,11 +20,15 @@ head_written (x ∷ y ∷ z ∷ s) a b c h = refl
 
 -- a part from 3 on, overwritten by as many bytes
 pub data_written : (s d : List ℕ)
-    → take 3 s ++ (d ++ drop ((length d + 3) - 3) (drop 3 s)) ≡ (take 3 s ++ d) ++ drop (length d + 3) s
+    → take 3 s ++ ((take (length d) d ++ drop (length d) (take ((length d + 3) - 3) (drop 3 s))) ++ drop ((length d + 3) - 3) (drop 3 s))
+    ≡ (take 3 s ++ d) ++ drop (length d + 3) s
 data_written s d =
     let n : (length d + 3) - 3 ≡ length d = omega arith in
-    ap (λ (k : ℕ). take 3 s ++ (d ++ drop k (drop 3 s))) n
-    ∙ ap (λ (y : List ℕ). take 3 s ++ (d ++ y)) (drop-drop (length d) 3 s ∙ ap (λ (k : ℕ). drop k s) (add_comm 3 (length d)))
+    let none : drop (length d) (take (length d) (drop 3 s)) ≡ [] =
+    drop_of_length-le (take (length d) (drop 3 s)) {i = length d} (simp length-take (omega arith)) in
+    ap (λ (k : ℕ). take 3 s ++ ((take (length d) d ++ drop (length d) (take k (drop 3 s))) ++ drop k (drop 3 s))) n
+    ∙ ap₂ (λ (x y : List ℕ). take 3 s ++ ((x ++ y) ++ drop (length d) (drop 3 s))) (take-length d) none
+    ∙ ap₂ (λ (x y : List ℕ). take 3 s ++ (x ++ y)) (append-nil d) (drop-drop (length d) 3 s ∙ ap (λ (k : ℕ). drop k s) (add_comm 3 (length d)))
     ∙ sym (append_assoc (take 3 s) d (drop (length d + 3) s))
 
 -- the frame, from its three parts

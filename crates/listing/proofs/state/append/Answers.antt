@@ -1,11 +1,11 @@
 use Prim.Native.Nat.{ℕ, ◌+◌, ◌-◌}
-use lib.ListN.{length, get_or, take, drop, length-set}
+use lib.ListN.{length, get_or, take, drop, length-set, length-take, length-drop}
 use mathlib.Core.List.{List, ◌++◌}
-use mathlib.Core.Path.{ap, sym, ◌∙◌}
-use Rattle.listing.proofs.Laws.Output.{copied}
+use mathlib.Core.Path.{ap, ◌∙◌}
 use native.Mathlib.Omega.{arith}
 use Rattle.listing.proofs.Laws.State.{state_long, state_count}
 use Rattle.listing.proofs.Laws.Taken.{unread_count, counted, state_appended}
+use Rattle.link.proofs.Laws.Copying.{all_copied}
 use Rattle.listing.proofs.state.append.Goals as goal
 
 pub bounds-state-4 : goal.bounds-state-4
@@ -46,8 +46,8 @@ bounds-state-4-2 c =
     let long = state_long c.args.state.now c.requires.state_value in
     simp length-set (omega arith)
 
-pub slice_bounds-copy_from_slice-end : goal.slice_bounds-copy_from_slice-end
-slice_bounds-copy_from_slice-end c =
+pub slice_bounds-copy-end : goal.slice_bounds-copy-end
+slice_bounds-copy-end c =
     let long = state_long c.args.state.now c.requires.state_value in
     let count = unread_count c.args.state.now c.requires.state_value in
     simp length-set (omega arith)
@@ -62,6 +62,8 @@ returns c =
     let p = c.args.piece.now in
     let total = c.came.result + length p in
     let from = 5 + get_or b 4 0 in
+    let long = state_long b c.requires.state_value in
+    let count = unread_count b c.requires.state_value in
     let h = counted p total b in
-    ap (λ (ys : List ℕ). take from h ++ (ys ++ drop (from + length p - from) (drop from h))) (c.copy_from_slice.ensures.after ∙ sym (copied p (drop from h) (from + length p - from) (omega arith)))
+    ap (λ (ys : List ℕ). take from h ++ (ys ++ drop (from + length p - from) (drop from h))) (c.copy.ensures ∙ all_copied p _ (simp (length-take, length-drop, length-set) (omega arith)))
     ∙ state_appended p total b (λ i. (c.slice_known-1.given i).fits) c.requires.state_value (ap (λ (n : ℕ). n + length p) c.came.ensures)

@@ -1,10 +1,10 @@
 use Prim.Native.Nat.{ℕ, ◌+◌, ◌-◌}
-use lib.ListN.{length, take, drop, length-set}
+use lib.ListN.{length, take, drop, length-set, length-take, length-drop}
 use mathlib.Core.List.{List, ◌++◌}
-use mathlib.Core.Path.{ap, sym, ◌∙◌}
-use Rattle.listing.proofs.Laws.Output.{copied}
+use mathlib.Core.Path.{ap, ◌∙◌}
 use native.Mathlib.Omega.{arith}
 use Rattle.listing.proofs.Laws.State.{headed, state_written}
+use Rattle.link.proofs.Laws.Copying.{all_copied}
 use Rattle.listing.proofs.state.put.Goals as goal
 
 pub bounds-state-2 : goal.bounds-state-2
@@ -25,5 +25,5 @@ returns c =
     let a = c.args in
     let u = c.args.unread.now in
     let h = headed a.came a.run u s in
-    ap (λ (ys : List ℕ). take 5 h ++ (ys ++ drop (5 + length u - 5) (drop 5 h))) (c.copy_from_slice.ensures.after ∙ sym (copied u (drop 5 h) (5 + length u - 5) (omega arith)))
+    ap (λ (ys : List ℕ). take 5 h ++ (ys ++ drop (5 + length u - 5) (drop 5 h))) (c.copy.ensures ∙ all_copied u _ (simp (length-take, length-drop, length-set) (omega arith)))
     ∙ state_written a.came a.run u s c.put_fresh.ensures
