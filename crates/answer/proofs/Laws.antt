@@ -1,6 +1,8 @@
 -- The laws, a file for each subject.
 pub mod AtMost
 pub mod Decided
+pub mod Exit
+pub mod Fields
 pub mod Output
 pub mod Packed
 pub mod Retired

@@ -1,9 +1,7 @@
 -- Document 01, "Answer numbers": the refusals, what a call answers, and what a writer leaves in lent memory.
-use Rattle.std.specs.Prelude.{ℕ, Bool, true, false, List, ◌++◌, length, drop, ltb}
+use Rattle.std.specs.Prelude.{ℕ, Bool, true, false, List, ◌++◌, length, drop, ltb, Result, Ok, Err}
 use Rattle.answer.specs.declared.Refusal.{Refusal}
 use Rattle.answer.specs.declared.Refusal.TheVariants.{Short, Start, Length, Long, Checksum, Unknown, TypeLength, Field, Room, Total}
-use Rattle.answer.specs.declared.Written.{Written}
-use Rattle.answer.specs.declared.Written.TheVariants.{Count, Refused}
 
 -- the number of each refusal, in the table's order; 10, a cost word above 65025, is retired by document 02, K4, and not used again
 abbrev pub number_of : Refusal → ℕ
@@ -52,7 +50,7 @@ abbrev pub out_after : Outcome (List ℕ) → List ℕ → List ℕ
 out_after (refused n) old = old
 out_after (accepted bytes) old = bytes ++ drop (length bytes) old
 
--- what a writer answers: the count of bytes written
-abbrev pub written_of : Written → Outcome ℕ
-written_of (Count n) = accepted n
-written_of (Refused r) = refused (number_of r)
+-- what the code answers, a refusal by its number
+abbrev pub outcome_of : {A : Type 0} → Result A Refusal → Outcome A
+outcome_of (Ok a) = accepted a
+outcome_of (Err r) = refused (number_of r)

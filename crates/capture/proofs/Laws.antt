@@ -1,10 +1,9 @@
 -- What is printed of an answer, and the bytes that are stored for it. Assumes nothing.
 use mathlib.Core.Path.{◌≡◌, refl, ap, ◌∙◌}
 use mathlib.Core.List.{List, [], ◌∷◌, ◌++◌}
-use Prim.Native.Nat.{ℕ, ◌+◌, ◌≤◌}
+use Prim.Native.Nat.{ℕ}
 use native.Mathlib.Omega.{arith}
 use lib.ListN.{length, drop}
-use lib.Seq.{sets, sets-eq}
 use Rattle.answer.specs.Answer.{Outcome, refused, accepted, on_accepted, out_after}
 use Rattle.listing.specs.Text.{line_feed, listing, refused_word}
 use Rattle.listing.proofs.Laws.Answers.{only_3}
@@ -34,8 +33,3 @@ is_refused s k e =
 -- the refusal's text
 pub refusal : printed (refused 3) ≡ 0x72 ∷ 0x65 ∷ 0x66 ∷ 0x75 ∷ 0x73 ∷ 0x65 ∷ 0x64 ∷ 0x20 ∷ 0x33 ∷ 0x0A ∷ []
 refusal = ap (λ (d : List ℕ). refused_word ++ (d ++ (line_feed ∷ []))) (below_10 3 (omega arith))
-
-pub ten_stored : (xs old : List ℕ) → length xs ≤ length old → sets old 0 xs ≡ xs ++ drop (length xs) old
-ten_stored xs old h =
-    let e : 0 + length xs ≡ length xs = omega arith in
-    sets-eq xs old 0 (omega arith) ∙ ap (λ (n : ℕ). xs ++ drop n old) e

@@ -6,7 +6,6 @@ ghost use Rattle.answer.specs.Answer.{refused};
 ghost use Rattle.listing.specs.Text.{listing};
 ghost use Rattle.capture.specs.Printed.{printed};
 
-use answer::Written;
 use std::io;
 
 // One byte more than a capture may have.
@@ -21,16 +20,7 @@ fn put_refusal(out: &mut [u8]) -> usize
     ensures value { result ≡ length (printed (refused 3)) }
     ensures out_after { out.new ≡ printed (refused 3) ++ drop (length (printed (refused 3))) out.old }
 {
-    out[0] = b'r';
-    out[1] = b'e';
-    out[2] = b'f';
-    out[3] = b'u';
-    out[4] = b's';
-    out[5] = b'e';
-    out[6] = b'd';
-    out[7] = b' ';
-    out[8] = b'3';
-    out[9] = b'\n';
+    out[..10].copy_from_slice(b"refused 3\n");
     10
 }
 
@@ -42,8 +32,8 @@ fn report(bytes: &[u8], out: &mut [u8]) -> usize
     ensures upper_bound { result ≤ length out.old }
 {
     match listing::write(bytes, out) {
-        Written::Count(n) => n as usize,
-        Written::Refused(_) => put_refusal(out),
+        Ok(n) => n as usize,
+        Err(_) => put_refusal(out),
     }
 }
 

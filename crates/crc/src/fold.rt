@@ -5,8 +5,6 @@ ghost use Rattle.std.specs.Int.Bits.{bit_xor};
 ghost use Rattle.crc.specs.Crc.{crc};
 ghost use Rattle.crc.specs.Parts.{turns, parity, odd_part, even_part};
 
-use crate::word::wide;
-
 // The powers from x^30 up become lower ones, by x^2+1. What is left stands in the 36 highest bits.
 fn fold(s: u64) -> u64
     ensures { (even_part result ≡ even_part s) × (result % 2 ^ 28 ≡ 0) }
@@ -37,7 +35,7 @@ fn reduce(n: u64) -> u64
 fn by_parity(n: u64, odd: u64, even: u64) -> u64
     ensures { result ≡ cond (parity 64 n) odd even }
 {
-    if u64::count_ones(n) % 2 == 1 {
+    if n.count_ones() % 2 == 1 {
         return odd;
     }
     even
@@ -58,6 +56,6 @@ pub(crate) fn finish(s: u64, all: u64) -> u16
 pub(crate) fn of_01_and(byte: u8) -> u16
     ensures { result ≡ crc (1 ∷ byte ∷ []) }
 {
-    let n = wide(byte);
+    let n = u64::from(byte);
     (by_parity(n, 0x5000, 0x9001) ^ n << 6 ^ n << 7) as u16
 }

@@ -6,25 +6,11 @@
 mod fold;
 mod word;
 
-ghost use Rattle.std.specs.Prelude.{true, [], ◌∷◌, ◌≡◌, get_or};
+ghost use Rattle.std.specs.Prelude.{◌≡◌};
 ghost use Rattle.crc.specs.Crc.{crc, shift};
 
 use fold::{advance, finish, of_01_and};
 use word::{eight, head};
-
-// True only of 01 and a byte: what the CRC covers in a frame without data. In this order of questions longer strings take two
-// instructions less.
-fn is_01_and_byte(b: &[u8]) -> bool
-    ensures { result ≡ true → b.now ≡ 1 ∷ get_or b.now 1 0 ∷ [] }
-{
-    if b.len() == 0 {
-        return false;
-    }
-    if b[0] != 1 {
-        return false;
-    }
-    b.len() == 2
-}
 
 // The CRC of a byte string.
 pub fn crc16(bytes: &[u8]) -> u16
@@ -32,17 +18,19 @@ pub fn crc16(bytes: &[u8]) -> u16
 {
     // Lent again here, so that its start and length are passed in registers.
     let b = &bytes[..];
-    let len = b.len();
-    if is_01_and_byte(b) {
+    // 01 and a byte, what the CRC covers in a frame without data. In this order of questions other strings take fewer instructions than by
+    // the pattern [1, byte].
+    if !b.is_empty() && b[0] == 1 && b.len() == 2 {
         return of_01_and(b[1]);
     }
-    let mut i = len % 8;
-    let mut s = head(b, i);
+    let mut i = b.len() % 8;
+    let mut s = head(&b[..i]);
     let mut all = s;
-    while i < len {
+    // By an index: a `for` over the words, those of `as_chunks`, is unrolled, to 690 bytes of code in place of 292, and 425 are allowed.
+    while i < b.len() {
         let w = eight(b, i);
         s = advance(s) ^ w;
-        all = all ^ w;
+        all ^= w;
         i += 8;
     }
     finish(s, all)

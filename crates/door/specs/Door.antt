@@ -1,13 +1,11 @@
 -- Document 02, K6: what the door does with one message. The checks of secret and state, the writer's 6, 7, 8, time, then the message.
 use Rattle.std.specs.Prelude.{ℕ, ◌+◌, ◌-◌, Bool, true, false, cond, not, ◌&&◌, List, [], ◌∷◌, eqb, ltb, get_or}
-use Rattle.answer.specs.Answer.{Outcome, refused, accepted, refuse_if, and_then, on_accepted, number_of}
+use Rattle.answer.specs.Answer.{Outcome, refused, accepted, refuse_if, and_then, on_accepted}
 use Rattle.answer.specs.Packed.{Field, byte}
 use Rattle.message.specs.Message.{write_message}
 use Rattle.door.specs.State.{most_wrong, shut_out, is_secret, is_state, state_of, state_bytes}
 use Rattle.door.specs.declared.Reply.{Reply}
 use Rattle.door.specs.declared.Reply.TheVariants.{Acknowledge, NegativeAcknowledge, PassedOn}
-use Rattle.door.specs.declared.Answered.{Answered}
-use Rattle.door.specs.declared.Answered.TheVariants as A
 use Rattle.door.specs.declared.judge.Judged.{Judged}
 use Rattle.door.specs.declared.state.State.{State}
 
@@ -73,11 +71,6 @@ reply_by o = on_accepted (λ j. j.reply) o
 abbrev pub state_after : Outcome Judged → List ℕ → List ℕ
 state_after (refused n) lent = lent
 state_after (accepted j) lent = state_bytes j.state
-
--- what the code answers
-abbrev pub answered_of : Answered → Outcome Reply
-answered_of (A.Reply r) = accepted r
-answered_of (A.Refused r) = refused (number_of r)
 
 -- for C: the type of the reply, 05 or 06, or 0 where the message is passed on
 abbrev pub reply_type : Reply → ℕ

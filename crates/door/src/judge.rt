@@ -6,7 +6,7 @@ use crate::Reply;
 use crate::state::{MOST_WRONG, SHUT_OUT, State};
 
 // What is answered to a message, and the state that it leaves.
-#[derive(Drop)]
+#[derive(Clone, Copy)]
 pub struct Judged {
     pub reply: Reply,
     pub state: State,
@@ -25,20 +25,14 @@ const LOGOUT: u8 = 0x21;
 fn session(seconds: u32, logged_in: bool) -> bool
     ensures { result ≡ session seconds logged_in }
 {
-    if seconds < SILENCE {
-        return logged_in;
-    }
-    false
+    seconds < SILENCE && logged_in
 }
 
 // What is left of a shut-out after so many seconds.
 fn left_after(seconds: u32, left: u16) -> u16
     ensures { result ≡ left - seconds }
 {
-    if seconds < left as u32 {
-        return left - seconds as u16;
-    }
-    0
+    u32::from(left).saturating_sub(seconds) as u16
 }
 
 // The state after whole seconds.
@@ -47,12 +41,12 @@ pub(crate) fn elapsed(seconds: u32, st: State) -> State
 {
     State {
         logged_in: session(seconds, st.logged_in),
-        wrong: st.wrong,
         left: left_after(seconds, st.left),
+        ..st
     }
 }
 
-// Whether a login has the secret's digits. All four are compared, whichever differs.
+// Whether a login has the secret's digits. All four are compared, whichever differs: `==` and `all` would end at the first.
 fn same_digits(secret: &[u8], digits: &[u8]) -> bool
     requires secret_len { length secret.now ≡ 4 }
     requires digits_len { length digits.now ≡ 4 }
@@ -71,15 +65,14 @@ fn wrong_login(st: State) -> State
 {
     if st.wrong < MOST_WRONG {
         return State {
-            logged_in: st.logged_in,
             wrong: st.wrong + 1,
-            left: st.left,
+            ..st
         };
     }
     State {
-        logged_in: st.logged_in,
         wrong: 0,
         left: SHUT_OUT,
+        ..st
     }
 }
 
@@ -129,8 +122,7 @@ fn on_other(kind: u8, st: State) -> Judged
             reply: Reply::Acknowledge,
             state: State {
                 logged_in: false,
-                wrong: st.wrong,
-                left: st.left,
+                ..st
             },
         };
     }

@@ -3,9 +3,9 @@ ghost use Rattle.std.specs.Prelude.{◌≡◌, [], ◌∷◌};
 ghost use Rattle.answer.specs.Answer.{accepted, on_accepted};
 ghost use Rattle.answer.specs.Packed.{packed, field};
 ghost use Rattle.tally.specs.Cost.{millionths};
-ghost use Rattle.tally.specs.Total.{next_total, total_after, added_of};
+ghost use Rattle.tally.specs.Total.{next_total, total_after};
 
-use tally::{Added, Tally};
+use tally::Tally;
 
 // The value of a cost word in millionths: no word is refused.
 pub fn cost_millionths(word: u16) -> u64
@@ -14,20 +14,13 @@ pub fn cost_millionths(word: u16) -> u64
     answer::pack_56_bits(tally::convert(word))
 }
 
-// The packed answer of an addition.
-fn pack_added(added: Added) -> u64
-    ensures { result ≡ packed (on_accepted (λ total. []) (added_of added)) }
-{
-    match added {
-        Added::Total(_) => answer::pack_nothing(),
-        Added::Refused(r) => answer::pack_refusal(r),
-    }
-}
-
 // Adds the cost word of a meter reply to the lent tally.
 pub fn meter_add(t: &mut Tally, bytes: &[u8]) -> u64
     ensures { (result ≡ packed (on_accepted (λ total. []) (next_total t.old.total bytes.now)))
         × (t.new.total ≡ total_after t.old.total bytes.now) }
 {
-    pack_added(tally::add_reply(t, bytes))
+    match tally::add_reply(t, bytes) {
+        Ok(_) => answer::pack_nothing(),
+        Err(r) => answer::pack_refusal(r),
+    }
 }

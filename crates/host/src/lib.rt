@@ -11,3 +11,4 @@ pub mod model;
 pub mod omnilink;
 pub mod omnistat2;
 pub mod patterns;
+mod packing; // answers packed

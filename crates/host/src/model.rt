@@ -3,9 +3,10 @@ ghost use Rattle.std.specs.Prelude.{◌≡◌, [], ◌∷◌, length};
 ghost use Rattle.answer.specs.Answer.{on_accepted, out_after};
 ghost use Rattle.answer.specs.Packed.{packed, word};
 ghost use Rattle.thermostat.specs.Step.{step, map_of, texts_of, sent_of};
-ghost use Rattle.thermostat.specs.Temperature.{celsius, fahrenheit_tenths, bytes_of, pair_of, pair_fields};
+ghost use Rattle.thermostat.specs.Temperature.{celsius, fahrenheit_tenths, bytes_of, pair_fields};
 
-use thermostat::setpoints::{Pair, Setpoints};
+use crate::packing::{Fields, pack};
+use thermostat::setpoints::Setpoints;
 
 // A step of the model thermostat.
 pub fn thermostat_step(
@@ -44,13 +45,12 @@ pub fn setpoints_from_bytes(cool: u8, heat: u8) -> Setpoints
     thermostat::setpoints::from_bytes(cool, heat)
 }
 
-// A packed pair: cool byte, heat byte.
-fn pack_pair(p: Pair) -> u64
-    ensures { result ≡ packed (on_accepted pair_fields (pair_of p)) }
-{
-    match p {
-        Pair::Refused(r) => answer::pack_refusal(r),
-        Pair::Bytes { cool, heat } => answer::pack_2_bytes(cool, heat),
+// A pair of bytes: cool, heat.
+impl Fields for (u8, u8) {
+    ghost fields = { pair_fields };
+
+    fn pack(self) -> u64 {
+        answer::pack([self.0, self.1])
     }
 }
 
@@ -58,5 +58,5 @@ fn pack_pair(p: Pair) -> u64
 pub fn setpoints_to_bytes(p: Setpoints) -> u64
     ensures { result ≡ packed (on_accepted pair_fields (bytes_of p.cool p.heat)) }
 {
-    pack_pair(thermostat::setpoints::to_bytes(p))
+    pack(thermostat::setpoints::to_bytes(p))
 }

@@ -2,16 +2,16 @@
 ghost use Rattle.std.specs.Prelude.{◌≡◌, [], ◌∷◌, length};
 ghost use Rattle.answer.specs.Answer.{on_accepted, in_room, out_after};
 ghost use Rattle.answer.specs.Packed.{packed, byte, word};
-ghost use Rattle.link.specs.Frame.{read_frame, write_frame, outcome_of};
+ghost use Rattle.link.specs.Frame.{read_frame, write_frame};
 
-use link::frame::FrameRead;
+use crate::packing::{Fields, pack};
+use link::frame::Header;
 
-fn pack_frame(r: FrameRead) -> u64
-    ensures { result ≡ packed (on_accepted (λ h. byte h.kind ∷ byte h.count ∷ []) (outcome_of r)) }
-{
-    match r {
-        FrameRead::Accepted { kind, count } => answer::pack_2_bytes(kind, count),
-        FrameRead::Refused(refusal) => answer::pack_refusal(refusal),
+impl Fields for Header {
+    ghost fields = { λ h. byte h.kind ∷ byte h.count ∷ [] };
+
+    fn pack(self) -> u64 {
+        answer::pack([self.kind, self.count])
     }
 }
 
@@ -19,7 +19,7 @@ fn pack_frame(r: FrameRead) -> u64
 pub fn omnilink_frame_read(bytes: &[u8]) -> u64
     ensures { result ≡ packed (on_accepted (λ f. byte f.kind ∷ byte (length f.bytes) ∷ []) (read_frame bytes.now)) }
 {
-    pack_frame(link::frame::read(bytes))
+    pack(link::frame::read(bytes))
 }
 
 // Bytes written (16).

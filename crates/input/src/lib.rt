@@ -13,13 +13,11 @@ fn read_once<R: Read>(from: &mut R, buffer: &mut [u8]) -> usize
     ensures count { IsPrefixLen result buffer.new }
     ensures bytes { Consumes (R.remaining from.old) (R.remaining from.new) (take result buffer.new) }
 {
-    match from.read(buffer) {
-        Ok(n) => n,
-        Err(_) => 0,
-    }
+    from.read(buffer).unwrap_or(0)
 }
 
-// Reads until the buffer is full, the input ends or a read fails, and answers how many bytes came to its start.
+// Reads until the buffer is full, the input ends or a read fails, and answers how many bytes came to its start. No range counts the loop:
+// it goes on by as many bytes as came.
 fn read_full<R: Read>(from: &mut R, buffer: &mut [u8]) -> usize
     ensures count { IsPrefixLen result buffer.new }
     ensures bytes { Consumes (R.remaining from.old) (R.remaining from.new) (take result buffer.new) }

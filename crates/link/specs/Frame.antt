@@ -1,9 +1,8 @@
 -- Document 01, "Omni-Link frames": reading and writing.
 use Rattle.std.specs.Prelude.{ℕ, ◌+◌, ◌-◌, ◌*◌, ◌/◌, ◌%◌, not, cond, List, [], ◌∷◌, ◌++◌, eqb, ltb, leb, length, get_or, take, drop}
-use Rattle.answer.specs.Answer.{Outcome, refused, accepted, refuse_if, number_of}
+use Rattle.answer.specs.Answer.{Outcome, accepted, refuse_if}
 use Rattle.crc.specs.Crc.{crc}
-use Rattle.link.specs.declared.frame.FrameRead.{FrameRead}
-use Rattle.link.specs.declared.frame.FrameRead.TheVariants.{Accepted, Refused}
+use Rattle.link.specs.declared.frame.Header.{Header}
 
 -- what a frame carries: its kind, which is the type byte, and its data bytes
 pub record Frame : Type 0 where
@@ -57,16 +56,8 @@ abbrev pub size : Frame → ℕ
 size f = length f.bytes + 5
 
 -- what the reader hands back of a frame in numbers: its type and the count of its data bytes
-pub record Header : Type 0 where
-  pub kind : ℕ
-  pub count : ℕ
-
 abbrev pub header : Frame → Header
 header f = record { kind = f.kind; count = length f.bytes }
-
-abbrev pub outcome_of : FrameRead → Outcome Header
-outcome_of (Accepted t n) = accepted (record { kind = t; count = n })
-outcome_of (Refused r) = refused (number_of r)
 
 -- the part of the caller's slice that holds a frame's data bytes, so many of them
 abbrev pub data_part : List ℕ → ℕ → List ℕ

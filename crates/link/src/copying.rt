@@ -6,9 +6,8 @@ pub fn copy(from: &[u8], to: &mut [u8])
     ensures { to.new ≡ take (length to.old) from.now ++ drop (length from.now) to.old }
 {
     let n = from.len().min(to.len());
-    let mut i = 0;
-    while i < n {
+    // By an index, as of what a `zip` over `iter_mut` writes a proof knows nothing.
+    for i in 0..n {
         to[i] = from[i];
-        i += 1;
     }
 }

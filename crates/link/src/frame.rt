@@ -1,11 +1,11 @@
 // Frames: the reader, the frame that starts a byte string, a frame's data bytes, and the writer.
 ghost use Rattle.std.specs.Prelude.{◌≡◌, ◌+◌, ◌*◌, ◌/◌, ◌%◌, ◌≤◌, ◌∷◌, ◌++◌, eqb, length, get_or, take, drop, set};
-ghost use Rattle.answer.specs.Answer.{accepted, on_accepted, in_room, out_after, written_of};
+ghost use Rattle.answer.specs.Answer.{accepted, on_accepted, in_room, out_after, outcome_of};
 ghost use Rattle.crc.specs.Crc.{crc};
-ghost use Rattle.link.specs.Frame.{read_frame, read_first, write_frame, frame_bytes, header, outcome_of, data_part, covered, sent};
+ghost use Rattle.link.specs.Frame.{read_frame, read_first, write_frame, frame_bytes, header, data_part, covered, sent};
 
 use crate::copying::copy;
-use answer::{Refusal, Written};
+use answer::Refusal;
 
 pub const START: u8 = 0x5A;
 
@@ -13,18 +13,11 @@ pub const MAX_LENGTH: u8 = 0x41;
 
 const MAX_DATA: usize = 64;
 
-// What reading a frame answers: its kind, which is the type byte, and the count of its data bytes; or the refusal.
-#[derive(Drop)]
-pub enum FrameRead {
-    Accepted { kind: u8, count: u8 },
-    Refused(Refusal),
-}
-
-// The CRC of two bytes, the low one sent first.
-fn from_bytes(lo: u8, hi: u8) -> u16
-    ensures { result ≡ lo + 256 * hi }
-{
-    lo as u16 + 256 * (hi as u16)
+// What the reader tells of a frame: its kind, which is the type byte, and the count of its data bytes.
+#[derive(Clone, Copy)]
+pub struct Header {
+    pub kind: u8,
+    pub count: u8,
 }
 
 // Whether the CRC that a frame of length byte l carries is the one of its length, type and data.
@@ -32,42 +25,42 @@ fn crc_holds(bytes: &[u8], l: usize) -> bool
     requires { l + 4 ≤ length bytes.now }
     ensures { result ≡ eqb (sent bytes.now l) (crc (covered bytes.now l)) }
 {
-    let carried = from_bytes(bytes[l + 2], bytes[l + 3]);
+    let carried = u16::from_le_bytes([bytes[l + 2], bytes[l + 3]]);
     carried == crc::crc16(&bytes[1..l + 2])
 }
 
 // Reads a byte string as a whole frame, with the checks in document 01's order.
-pub fn read(bytes: &[u8]) -> FrameRead
+pub fn read(bytes: &[u8]) -> Result<Header, Refusal>
     ensures { outcome_of result ≡ on_accepted header (read_frame bytes.now) }
 {
     if bytes.len() == 0 {
-        return FrameRead::Refused(Refusal::Short);
+        return Err(Refusal::Short);
     }
     if bytes[0] != START {
-        return FrameRead::Refused(Refusal::Start);
+        return Err(Refusal::Start);
     }
     if bytes.len() == 1 {
-        return FrameRead::Refused(Refusal::Short);
+        return Err(Refusal::Short);
     }
     let l = bytes[1];
     if l == 0 {
-        return FrameRead::Refused(Refusal::Length);
+        return Err(Refusal::Length);
     }
     if MAX_LENGTH < l {
-        return FrameRead::Refused(Refusal::Length);
+        return Err(Refusal::Length);
     }
     if bytes.len() < l as usize + 4 {
-        return FrameRead::Refused(Refusal::Short);
+        return Err(Refusal::Short);
     }
     if l as usize + 4 < bytes.len() {
-        return FrameRead::Refused(Refusal::Long);
+        return Err(Refusal::Long);
     }
     let kind = bytes[2];
     let count = l - 1;
     if crc_holds(bytes, l as usize) {
-        return FrameRead::Accepted { kind, count };
+        return Ok(Header { kind, count });
     }
-    FrameRead::Refused(Refusal::Checksum)
+    Err(Refusal::Checksum)
 }
 
 // How many bytes the frame that starts a byte string has by its length byte, as far as they are there.
@@ -75,18 +68,14 @@ fn first_size(bytes: &[u8]) -> usize
     ensures within { result ≤ length bytes.now }
     ensures same { take result bytes.now ≡ take (get_or bytes.now 1 0 + 4) bytes.now }
 {
-    if bytes.len() < 2 {
-        return bytes.len();
+    match bytes {
+        [_, l, ..] => bytes.len().min(usize::from(*l) + 4),
+        _ => bytes.len(),
     }
-    let size = bytes[1] as usize + 4;
-    if bytes.len() < size {
-        return bytes.len();
-    }
-    size
 }
 
 // Reads the frame that starts a byte string, whatever stands behind it. Its length byte says how many bytes are its own.
-pub fn read_first(bytes: &[u8]) -> FrameRead
+pub fn read_first(bytes: &[u8]) -> Result<Header, Refusal>
     ensures { outcome_of result ≡ on_accepted header (read_first bytes.now) }
 {
     let size = first_size(bytes);
@@ -98,11 +87,8 @@ pub fn read_first(bytes: &[u8]) -> FrameRead
 pub fn data(bytes: &[u8], count: u8) -> &[u8]
     ensures { result.now ≡ data_part bytes.now count }
 {
-    let end = 3 + count as usize;
-    if end <= bytes.len() {
-        return &bytes[3..end];
-    }
-    &bytes[..0]
+    let end = 3 + usize::from(count);
+    bytes.get(3..end).unwrap_or(&[])
 }
 
 // Writes start, length byte and kind.
@@ -129,9 +115,9 @@ fn put_crc(l: usize, out: &mut [u8])
     requires { l + 4 ≤ length out.old }
     ensures { out.new ≡ set (set out.old (l + 2) (crc (covered out.old l) % 256)) (l + 3) (crc (covered out.old l) / 256) }
 {
-    let crc = crc::crc16(&out[1..l + 2]);
-    out[l + 2] = (crc % 256) as u8;
-    out[l + 3] = (crc / 256) as u8;
+    let [low, high] = crc::crc16(&out[1..l + 2]).to_le_bytes();
+    out[l + 2] = low;
+    out[l + 3] = high;
 }
 
 // Writes the frame of a kind and at most 64 data bytes to the start of the output, which has room for it.
@@ -147,22 +133,22 @@ fn put_frame(kind: u8, data: &[u8], out: &mut [u8])
 }
 
 // Writes a frame: more than 64 data bytes is 3, then too little room 9. Nothing is written before it is known to fit.
-pub fn write(kind: u8, data: &[u8], out: &mut [u8]) -> Written
-    ensures result_value { written_of result ≡ on_accepted length (in_room (length out.old) (write_frame kind «data».now)) }
+pub fn write(kind: u8, data: &[u8], out: &mut [u8]) -> Result<u32, Refusal>
+    ensures result_value { outcome_of result ≡ on_accepted length (in_room (length out.old) (write_frame kind «data».now)) }
     ensures out_after { out.new ≡ out_after (in_room (length out.old) (write_frame kind «data».now)) out.old }
 {
     let count = data.len();
     if MAX_DATA < count {
-        return Written::Refused(Refusal::Length);
+        return Err(Refusal::Length);
     }
     if out.len() < count + 5 {
-        return Written::Refused(Refusal::Room);
+        return Err(Refusal::Room);
     }
     // The same call in a branch of its own: where it knows that there is no data, the compiler leaves the copying out.
     if count == 0 {
         put_frame(kind, data, out);
-        return Written::Count(5);
+        return Ok(5);
     }
     put_frame(kind, data, out);
-    Written::Count(count as u32 + 5)
+    Ok(count as u32 + 5)
 }

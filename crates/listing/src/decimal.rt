@@ -13,7 +13,8 @@ pub(crate) fn digit_count(n: usize) -> usize
     1 + (n > 9) as usize + (n > 99) as usize + (n > 999) as usize
 }
 
-// Writes a number from a place on, and answers the place behind it. In 32 bits a division by a constant costs less than in 64.
+// Writes a number from a place on, and answers the place behind it. In 32 bits a division by a constant costs less than in 64. Digit by
+// digit: no clause knows the bytes that a formatter writes, and `Put` says each of them.
 pub(crate) fn put_number(n: usize, out: &mut [u8], at: usize) -> usize
     requires n_bound { n < 10000 }
     requires n_in_bounds { at + length (number n) ≤ length out.old }

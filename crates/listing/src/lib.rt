@@ -13,11 +13,12 @@ mod state;
 mod text;
 
 ghost use Rattle.std.specs.Prelude.{◌≡◌, ◌+◌, ◌*◌, ◌<◌, ◌≤◌, leb, length};
-ghost use Rattle.answer.specs.Answer.{on_accepted, in_room, out_after, written_of};
+ghost use Rattle.answer.specs.Answer.{on_accepted, in_room, out_after, outcome_of};
 ghost use Rattle.listing.specs.Text.{listing};
 ghost use Rattle.listing.specs.Parts.{Within, found_text};
 
-use answer::{Refusal, Written};
+use answer::Refusal;
+use place::FrameAt;
 
 pub(crate) const MAX_CAPTURE: usize = 4096;
 
@@ -35,65 +36,53 @@ const ROOM_PER_BYTE: usize = 8;
 const ROOM_BESIDES: usize = 25;
 
 // Whether the listing's text fits a room. It is measured only where the room is not enough for any capture of that length.
-fn has_room(found: &[u32], len: usize, room: usize) -> bool
+fn has_room(found: &[FrameAt], len: usize, room: usize) -> bool
     requires len_bound { len ≤ 4096 }
     requires within { Within 0 found.now len }
     requires found_len_bound { length found.now ≤ 4096 }
     requires len_len_bound { length (found_text 0 found.now len) ≤ 8 * len + 25 }
     ensures { result ≡ leb (length (found_text 0 found.now len)) room }
 {
-    if ROOM_PER_BYTE * len + ROOM_BESIDES <= room {
-        return true;
-    }
-    let size = lines::text_size(found, 0, len);
-    size <= room
+    ROOM_PER_BYTE * len + ROOM_BESIDES <= room || lines::text_size(found, 0, len) <= room
 }
 
 // Writes the listing of a capture, whose frames are kept in a lent list: too little room is 9.
-fn write_with(bytes: &[u8], found: &mut [u32], out: &mut [u8]) -> Written
+fn write_with(bytes: &[u8], found: &mut [FrameAt], out: &mut [u8]) -> Result<u32, Refusal>
     requires bytes_len_bound { length bytes.now ≤ 4096 }
     requires bytes_len_bound_2 { length bytes.now < 5 * (length found.old + 1) }
-    ensures result_value { written_of result ≡ on_accepted length (in_room (length out.old) (listing bytes.now)) }
+    ensures result_value { outcome_of result ≡ on_accepted length (in_room (length out.old) (listing bytes.now)) }
     ensures out_after { out.new ≡ out_after (in_room (length out.old) (listing bytes.now)) out.old }
 {
     let n = scan::find(bytes, found);
     if !has_room(&found[..n], bytes.len(), out.len()) {
-        return Written::Refused(Refusal::Room);
+        return Err(Refusal::Room);
     }
     let size = lines::put_listing(&found[..n], 0, bytes.len(), out);
-    Written::Count(size as u32)
+    Ok(size as u32)
 }
 
-// With a list for a short capture.
-fn write_short(bytes: &[u8], out: &mut [u8]) -> Written
-    requires { length bytes.now ≤ 64 }
-    ensures result_value { written_of result ≡ on_accepted length (in_room (length out.old) (listing bytes.now)) }
+// With a list for so many frames. Only the list is made here, so that the code behind it is there once.
+fn write_in<const N: usize>(bytes: &[u8], out: &mut [u8]) -> Result<u32, Refusal>
+    requires bytes_len_bound { length bytes.now ≤ 4096 }
+    requires bytes_len_bound_2 { length bytes.now < 5 * (N + 1) }
+    requires frames_bound { N ≤ 819 }
+    ensures result_value { outcome_of result ≡ on_accepted length (in_room (length out.old) (listing bytes.now)) }
     ensures out_after { out.new ≡ out_after (in_room (length out.old) (listing bytes.now)) out.old }
 {
-    let mut found = [0u32; SHORT_FRAMES];
-    write_with(bytes, &mut found, out)
-}
-
-// With a list for any capture.
-fn write_any(bytes: &[u8], out: &mut [u8]) -> Written
-    requires { length bytes.now ≤ 4096 }
-    ensures result_value { written_of result ≡ on_accepted length (in_room (length out.old) (listing bytes.now)) }
-    ensures out_after { out.new ≡ out_after (in_room (length out.old) (listing bytes.now)) out.old }
-{
-    let mut found = [0u32; MAX_FRAMES];
+    let mut found = [FrameAt::UNUSED; N];
     write_with(bytes, &mut found, out)
 }
 
 // Writes the listing of a capture: above 4,096 bytes is 3, then too little room 9. Nothing is written before it is known to fit.
-pub fn write(bytes: &[u8], out: &mut [u8]) -> Written
-    ensures result_value { written_of result ≡ on_accepted length (in_room (length out.old) (listing bytes.now)) }
+pub fn write(bytes: &[u8], out: &mut [u8]) -> Result<u32, Refusal>
+    ensures result_value { outcome_of result ≡ on_accepted length (in_room (length out.old) (listing bytes.now)) }
     ensures out_after { out.new ≡ out_after (in_room (length out.old) (listing bytes.now)) out.old }
 {
     if MAX_CAPTURE < bytes.len() {
-        return Written::Refused(Refusal::Length);
+        return Err(Refusal::Length);
     }
     if bytes.len() <= SHORT_CAPTURE {
-        return write_short(bytes, out);
+        return write_in::<SHORT_FRAMES>(bytes, out);
     }
-    write_any(bytes, out)
+    write_in::<MAX_FRAMES>(bytes, out)
 }

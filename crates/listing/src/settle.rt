@@ -1,9 +1,9 @@
 // Places as far as they are settled, and the frames among them, which are kept with their offset in the capture.
 ghost use Rattle.std.specs.Prelude.{◌≡◌, true, false, List, ◌++◌, ℕ, ◌+◌, ◌*◌, ◌<◌, ◌≤◌, length, get_or, take, drop, set};
 ghost use Rattle.listing.specs.State.{settled};
-ghost use Rattle.listing.specs.Parts.{offset_in, behind, Settles, Ends};
+ghost use Rattle.listing.specs.Parts.{Settles, Ends};
 
-use crate::place::{PER_OFFSET, end_of, is_settled, judge};
+use crate::place::{FrameAt, is_settled, judge};
 use crate::scan::Reached;
 use link::frame::START;
 
@@ -13,57 +13,21 @@ pub(crate) fn is_waiting(unread: &[u8], more: usize) -> bool
     requires more_bound { more ≤ 4096 }
     ensures { result ≡ true → settled unread.now ≡ false → (piece : List ℕ) → length piece ≡ more → settled (unread.now ++ piece) ≡ false }
 {
-    if unread.len() < 2 {
-        return false;
+    match unread {
+        [_, l, ..] => unread.len() + more < usize::from(*l) + 4,
+        _ => false,
     }
-    unread.len() + more < unread[1] as usize + 4
 }
 
 // Whether no byte starts a frame: all are noise, whatever follows.
 pub(crate) fn is_noise(bytes: &[u8]) -> bool
     ensures { result ≡ true → (i : ℕ) → i < length bytes.now → get_or bytes.now i 0 ≡ 0x5A → ⊥ }
 {
-    let mut i = 0;
-    while i < bytes.len() {
-        if bytes[i] == START {
-            return false;
-        }
-        i += 1;
-    }
-    true
-}
-
-// The place behind what stands at a place: one byte of noise, or a frame.
-fn past(judged: u32, at: usize) -> usize
-    requires { at < 4096 }
-    ensures noise { judged ≡ 0 → result ≡ at + 1 }
-    ensures frame { (judged ≡ 0 → ⊥) → result ≡ behind judged }
-{
-    if judged == 0 {
-        return at + 1;
-    }
-    end_of(judged)
-}
-
-// Keeps what stands at a place, if it is a frame, with its offset in the capture, where base is that of the first byte. Answers how
-// many frames are kept.
-fn keep(judged: u32, base: usize, found: &mut [u32], count: usize) -> usize
-    requires judged_bound { base + offset_in judged ≤ 4096 }
-    requires count_in_bounds { (judged ≡ 0 → ⊥) → count < length found.old }
-    ensures noise { judged ≡ 0 → result ≡ count }
-    ensures same { judged ≡ 0 → found.new ≡ found.old }
-    ensures frame { (judged ≡ 0 → ⊥) → result ≡ count + 1 }
-    ensures kept { (judged ≡ 0 → ⊥) → found.new ≡ set found.old count (base * 65536 + judged) }
-{
-    if judged == 0 {
-        return count;
-    }
-    found[count] = base as u32 * PER_OFFSET + judged;
-    count + 1
+    bytes.iter().all(|b| *b != START)
 }
 
 // Judges the places before a limit as long as they are settled.
-pub(crate) fn settle(bytes: &[u8], base: usize, limit: usize, found: &mut [u32]) -> Reached
+pub(crate) fn settle(bytes: &[u8], base: usize, limit: usize, found: &mut [FrameAt]) -> Reached
     requires bytes_bound { base + length bytes.now ≤ 4096 }
     requires limit_in_bounds { limit ≤ length bytes.now }
     requires bytes_len_bound { length bytes.now < 5 * (length found.old + 1) }
@@ -73,20 +37,23 @@ pub(crate) fn settle(bytes: &[u8], base: usize, limit: usize, found: &mut [u32])
 {
     let mut at = 0;
     let mut count = 0;
-    while at < limit {
-        if !is_settled(&bytes[at..]) {
-            return Reached { at, count };
+    // No count: it goes on behind what stands at a place, which may be a frame.
+    while at < limit && is_settled(&bytes[at..]) {
+        match judge(bytes, at) {
+            Some(frame) => {
+                found[count] = frame.shifted(base);
+                count += 1;
+                at = frame.end();
+            }
+            None => at += 1,
         }
-        let judged = judge(bytes, at);
-        count = keep(judged, base, found, count);
-        at = past(judged, at);
     }
     Reached { at, count }
 }
 
 // Judges the last bytes of a capture, of which the first place is not settled: as cut off, that is, such a place is noise. Answers how many
 // frames are kept.
-pub(crate) fn end(bytes: &[u8], base: usize, found: &mut [u32]) -> usize
+pub(crate) fn end(bytes: &[u8], base: usize, found: &mut [FrameAt]) -> usize
     requires bytes_bound { base + length bytes.now ≤ 4096 }
     requires bytes_len_bound { length bytes.now < 5 * (length found.old + 1) }
     requires bytes_value { settled bytes.now ≡ false }
@@ -95,6 +62,7 @@ pub(crate) fn end(bytes: &[u8], base: usize, found: &mut [u32]) -> usize
 {
     let mut at = 0;
     let mut n = 0;
+    // No count: it goes on behind what was settled.
     while at < bytes.len() {
         let next = at + 1;
         let reached = settle(

@@ -1,6 +1,6 @@
 // The lent state of a capture that comes in pieces, 74 bytes: how many bytes have come (2), how long the run of noise without a line
 // is (2), the count of unread bytes (1), the unread bytes (69, those past the count zero).
-ghost use Rattle.std.specs.Prelude.{◌≡◌, true, [], ◌++◌, ◌+◌, ◌<◌, ◌≤◌, length};
+ghost use Rattle.std.specs.Prelude.{◌≡◌, true, [], ◌++◌, ◌+◌, ◌/◌, ◌%◌, ◌<◌, ◌≤◌, length, set};
 ghost use Rattle.listing.specs.State.{as_state, possible, zeros, all_zero, word, state_bytes, state_of, is_state, fresh};
 
 use crate::MAX_CAPTURE;
@@ -27,32 +27,38 @@ fn word(state: &[u8], at: usize) -> usize
     requires { at + 2 ≤ length state.now }
     ensures { result ≡ word state.now at }
 {
-    state[at] as usize * 256 + state[at + 1] as usize
+    usize::from(u16::from_be_bytes([state[at], state[at + 1]]))
 }
 
-// How many bytes have come.
-pub(crate) fn came(state: &[u8]) -> usize
-    requires { is_state state.now ≡ true }
-    ensures { result ≡ (state_of state.now).came }
+// Writes two bytes from a place on, the high byte first.
+fn put_word(state: &mut [u8], at: usize, n: usize)
+    requires at_in_bounds { at + 2 ≤ length state.old }
+    requires n_bound { n < 65536 }
+    ensures { state.new ≡ set (set state.old at (n / 256)) (at + 1) (n % 256) }
 {
-    word(state, CAME)
+    let [high, low] = (n as u16).to_be_bytes();
+    state[at] = high;
+    state[at + 1] = low;
 }
 
-// How many noise bytes stand without a line.
-pub(crate) fn run(state: &[u8]) -> usize
-    requires { is_state state.now ≡ true }
-    ensures { result ≡ (state_of state.now).run }
-{
-    word(state, RUN)
+// What a state says: how many bytes have come, how many noise bytes stand without a line, and the bytes not read yet.
+#[derive(Clone, Copy)]
+pub(crate) struct State<'a> {
+    pub(crate) came: usize,
+    pub(crate) run: usize,
+    pub(crate) unread: &'a [u8],
 }
 
-// The bytes not read yet.
-pub(crate) fn unread(state: &[u8]) -> &[u8]
+pub(crate) fn read(state: &[u8]) -> State<'_>
     requires { is_state state.now ≡ true }
-    ensures { result.now ≡ (state_of state.now).unread }
+    ensures { as_state result.came result.run result.unread.now ≡ state_of state.now }
 {
     let end = UNREAD + state[COUNT] as usize;
-    &state[UNREAD..end]
+    State {
+        came: word(state, CAME),
+        run: word(state, RUN),
+        unread: &state[UNREAD..end],
+    }
 }
 
 // Whether all bytes are zero. Their bits together say so, with no way out of the loop.
@@ -60,34 +66,25 @@ fn is_zero(bytes: &[u8]) -> bool
     ensures { result ≡ all_zero bytes.now }
 {
     let mut all = 0u8;
-    let mut i = 0;
-    while i < bytes.len() {
-        all |= bytes[i];
-        i += 1;
+    for b in bytes {
+        all |= *b;
     }
     all == 0
 }
 
 // Whether pieces lead to these numbers and unread bytes.
+#[tactic(auto, unfolding(crate::specs::State::possible))]
 fn is_possible(came: usize, run: usize, unread: &[u8]) -> bool
     requires run_bound { run < 65536 }
     requires unread_len_bound { length unread.now ≤ 69 }
     ensures { result ≡ possible (as_state came run unread.now) }
 {
-    if MAX_CAPTURE < came {
-        return false;
-    }
     let late = run + unread.len();
-    if came < late {
+    if MAX_CAPTURE < came || came < late {
         return false;
     }
     let early = came - late;
-    if early != 0 {
-        if early < MIN_FRAME {
-            return false;
-        }
-    }
-    !is_settled(unread)
+    (early == 0 || MIN_FRAME <= early) && !is_settled(unread)
 }
 
 // Whether these bytes are a state that pieces lead to.
@@ -108,23 +105,12 @@ pub(crate) fn is_state(state: &[u8]) -> bool
     is_possible(word(state, CAME), word(state, RUN), &state[UNREAD..end])
 }
 
-// Makes all bytes zero.
-fn clear(bytes: &mut [u8])
-    ensures { bytes.new ≡ zeros (length bytes.old) }
-{
-    let mut i = 0;
-    while i < bytes.len() {
-        bytes[i] = 0;
-        i += 1;
-    }
-}
-
 // Makes a state fresh.
 pub(crate) fn put_fresh(state: &mut [u8])
     requires { length state.old ≡ 74 }
     ensures { state.new ≡ fresh }
 {
-    clear(state);
+    state.fill(0);
 }
 
 // Writes a state: its numbers and its unread bytes, and zeros behind them.
@@ -136,10 +122,8 @@ pub(crate) fn put(state: &mut [u8], came: usize, run: usize, unread: &[u8])
     ensures { state.new ≡ state_bytes (as_state came run unread.now) }
 {
     put_fresh(state);
-    state[CAME] = (came / 256) as u8;
-    state[CAME + 1] = (came % 256) as u8;
-    state[RUN] = (run / 256) as u8;
-    state[RUN + 1] = (run % 256) as u8;
+    put_word(state, CAME, came);
+    put_word(state, RUN, run);
     state[COUNT] = unread.len() as u8;
     let end = UNREAD + unread.len();
     copy(unread, &mut state[UNREAD..end]);
@@ -153,11 +137,10 @@ pub(crate) fn append(state: &mut [u8], piece: &[u8])
     ensures { state.new ≡ state_bytes (as_state ((state_of state.old).came + length piece.now) (state_of state.old).run ((state_of state.old).unread ++ piece.now)) }
 {
     let count = state[COUNT] as usize;
-    let total = came(state) + piece.len();
+    let total = read(state).came + piece.len();
     let from = UNREAD + count;
     let end = from + piece.len();
-    state[CAME] = (total / 256) as u8;
-    state[CAME + 1] = (total % 256) as u8;
+    put_word(state, CAME, total);
     state[COUNT] = (count + piece.len()) as u8;
     copy(piece, &mut state[from..end]);
 }
@@ -169,10 +152,9 @@ pub(crate) fn count_noise(state: &mut [u8], count: usize)
     requires state_value_2 { (state_of state.old).unread ≡ [] }
     ensures { state.new ≡ state_bytes (as_state ((state_of state.old).came + count) ((state_of state.old).run + count) []) }
 {
-    let total = came(state) + count;
-    let noise = run(state) + count;
-    state[CAME] = (total / 256) as u8;
-    state[CAME + 1] = (total % 256) as u8;
-    state[RUN] = (noise / 256) as u8;
-    state[RUN + 1] = (noise % 256) as u8;
+    let st = read(state);
+    let total = st.came + count;
+    let noise = st.run + count;
+    put_word(state, CAME, total);
+    put_word(state, RUN, noise);
 }

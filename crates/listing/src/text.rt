@@ -1,10 +1,12 @@
 // The text of the lines: how long each is, and writing it from a place on; a writer answers the place behind what it wrote.
-ghost use Rattle.std.specs.Prelude.{◌≡◌, [], ◌∷◌, ◌+◌, ◌<◌, ◌≤◌, length};
-ghost use Rattle.listing.specs.Lines.{noise, frame, end};
-ghost use Rattle.listing.specs.Text.{line_text, end_word, field, space};
-ghost use Rattle.listing.specs.Parts.{Put, run_text};
+ghost use Rattle.std.specs.Prelude.{◌≡◌, ◌+◌, ◌<◌, ◌≤◌, length};
+ghost use Rattle.listing.specs.Lines.{noise, end};
+ghost use Rattle.listing.specs.Text.{line_text, field};
+ghost use Rattle.listing.specs.Parts.{Put, line_of, run_text};
 
 use crate::decimal::{digit_count, put_number};
+use crate::place::FrameAt;
+use link::copying::copy;
 
 const SPACE: u8 = 0x20;
 
@@ -22,13 +24,14 @@ pub(crate) fn run_size(offset: usize, count: usize) -> usize
     digit_count(offset) + digit_count(count) + 8
 }
 
-pub(crate) fn frame_size(offset: usize, count: usize, kind: usize) -> usize
-    requires offset_bound { offset < 10000 }
-    requires count_bound { count < 10000 }
-    requires kind_bound { kind < 10000 }
-    ensures { result ≡ length (line_text (frame offset count kind)) }
+pub(crate) fn frame_size(frame: FrameAt) -> usize
+    requires { frame.offset < 10000 }
+    ensures { result ≡ length (line_text (line_of frame)) }
 {
-    digit_count(offset) + digit_count(count) + digit_count(kind) + 9
+    digit_count(usize::from(frame.offset))
+        + digit_count(usize::from(frame.count))
+        + digit_count(usize::from(frame.kind))
+        + 9
 }
 
 pub(crate) fn end_size(offset: usize) -> usize
@@ -38,29 +41,14 @@ pub(crate) fn end_size(offset: usize) -> usize
     digit_count(offset) + 5
 }
 
-// Writes a word of five letters, and a space.
-fn put_word(a: u8, b: u8, c: u8, d: u8, e: u8, out: &mut [u8], at: usize) -> usize
-    requires { at + 6 ≤ length out.old }
-    ensures { Put at (a ∷ b ∷ c ∷ d ∷ e ∷ space ∷ []) out.old out.new result }
+// Writes a word with the space behind it.
+fn put_word(word: &[u8], out: &mut [u8], at: usize) -> usize
+    requires { at + length word.now ≤ length out.old }
+    ensures { Put at word.now out.old out.new result }
 {
-    out[at] = a;
-    out[at + 1] = b;
-    out[at + 2] = c;
-    out[at + 3] = d;
-    out[at + 4] = e;
-    out[at + 5] = SPACE;
-    at + 6
-}
-
-fn put_end_word(out: &mut [u8], at: usize) -> usize
-    requires { at + 4 ≤ length out.old }
-    ensures { Put at end_word out.old out.new result }
-{
-    out[at] = b'e';
-    out[at + 1] = b'n';
-    out[at + 2] = b'd';
-    out[at + 3] = b' ';
-    at + 4
+    let end = at + word.len();
+    copy(word, &mut out[at..end]);
+    end
 }
 
 // Writes a number, and the byte that closes it.
@@ -80,7 +68,7 @@ fn put_noise(offset: usize, count: usize, out: &mut [u8], at: usize) -> usize
     requires count_in_bounds { at + length (line_text (noise offset count)) ≤ length out.old }
     ensures { Put at (line_text (noise offset count)) out.old out.new result }
 {
-    let first = put_word(b'n', b'o', b'i', b's', b'e', out, at);
+    let first = put_word(b"noise ", out, at);
     let second = put_field(offset, SPACE, out, first);
     put_field(count, LINE_FEED, out, second)
 }
@@ -98,23 +86,15 @@ pub(crate) fn put_run(offset: usize, count: usize, out: &mut [u8], at: usize) ->
     put_noise(offset, count, out, at)
 }
 
-pub(crate) fn put_frame(
-    offset: usize,
-    count: usize,
-    kind: usize,
-    out: &mut [u8],
-    at: usize,
-) -> usize
-    requires offset_bound { offset < 10000 }
-    requires count_bound { count < 10000 }
-    requires kind_bound { kind < 10000 }
-    requires kind_in_bounds { at + length (line_text (frame offset count kind)) ≤ length out.old }
-    ensures { Put at (line_text (frame offset count kind)) out.old out.new result }
+pub(crate) fn put_frame(frame: FrameAt, out: &mut [u8], at: usize) -> usize
+    requires frame_bound { frame.offset < 10000 }
+    requires frame_in_bounds { at + length (line_text (line_of frame)) ≤ length out.old }
+    ensures { Put at (line_text (line_of frame)) out.old out.new result }
 {
-    let first = put_word(b'f', b'r', b'a', b'm', b'e', out, at);
-    let second = put_field(offset, SPACE, out, first);
-    let third = put_field(count, SPACE, out, second);
-    put_field(kind, LINE_FEED, out, third)
+    let first = put_word(b"frame ", out, at);
+    let second = put_field(usize::from(frame.offset), SPACE, out, first);
+    let third = put_field(usize::from(frame.count), SPACE, out, second);
+    put_field(usize::from(frame.kind), LINE_FEED, out, third)
 }
 
 pub(crate) fn put_end(offset: usize, out: &mut [u8], at: usize) -> usize
@@ -122,6 +102,6 @@ pub(crate) fn put_end(offset: usize, out: &mut [u8], at: usize) -> usize
     requires offset_in_bounds { at + length (line_text («end» offset)) ≤ length out.old }
     ensures { Put at (line_text («end» offset)) out.old out.new result }
 {
-    let first = put_end_word(out, at);
+    let first = put_word(b"end ", out, at);
     put_field(offset, LINE_FEED, out, first)
 }

@@ -10,7 +10,6 @@ ghost use Rattle.mend.specs.Printed.{place_word, hex_digit, hex_field, hex_line,
 ghost use Rattle.mend.specs.Parts.{spaced};
 
 use answer::Refusal;
-use mending::FrameMended;
 use std::io;
 
 // The longest frame.
@@ -28,7 +27,7 @@ const LINE_FEED: u8 = 0x0A;
 
 const ZERO: u64 = 0x30;
 
-// The hex digit of a number below 16.
+// The hex digit of a number below 16. By hand, as are the numbers below: of the bytes that a formatter writes no clause knows.
 fn hex_digit(n: u8) -> u8
     requires { n < 16 }
     ensures { result ≡ hex_digit n }
@@ -58,10 +57,8 @@ fn put_spaced(bytes: &[u8], out: &mut [u8], at: usize) -> usize
     ensures { Put at (spaced bytes.now) out.old out.new result }
 {
     let mut next = at;
-    let mut i = 0;
-    while i < bytes.len() {
-        next = put_hex(bytes[i], SPACE, out, next);
-        i += 1;
+    for b in bytes {
+        next = put_hex(*b, SPACE, out, next);
     }
     next
 }
@@ -108,13 +105,8 @@ fn put_place(place: u16, out: &mut [u8]) -> usize
     requires in_bounds { 10 ≤ length out.old }
     ensures { Put 0 (place_word ++ field place line_feed) out.old out.new result }
 {
-    out[0] = b'p';
-    out[1] = b'l';
-    out[2] = b'a';
-    out[3] = b'c';
-    out[4] = b'e';
-    out[5] = b' ';
-    put_field(place as u64, out, 6)
+    out[..6].copy_from_slice(b"place ");
+    put_field(u64::from(place), out, 6)
 }
 
 // Writes the line of a refusal to the start of the output.
@@ -122,15 +114,8 @@ fn put_refusal(r: Refusal, out: &mut [u8]) -> usize
     requires { 12 ≤ length out.old }
     ensures { Put 0 (refusal_text (number_of r)) out.old out.new result }
 {
-    out[0] = b'r';
-    out[1] = b'e';
-    out[2] = b'f';
-    out[3] = b'u';
-    out[4] = b's';
-    out[5] = b'e';
-    out[6] = b'd';
-    out[7] = b' ';
-    put_field(answer::number(r), out, 8)
+    out[..8].copy_from_slice(b"refused ");
+    put_field(u64::from(r), out, 8)
 }
 
 // Writes the place and the frame, a line each, to the start of the output.
@@ -153,11 +138,11 @@ fn report(bytes: &[u8], out: &mut [u8]) -> usize
 {
     let mut frame = [0u8; FRAME];
     match mending::mend(bytes, &mut frame) {
-        FrameMended::Accepted { place, count } => {
-            let n = count as usize;
-            put_mended(place, &frame[..n], out)
+        Ok(mended) => {
+            let n = usize::from(mended.count);
+            put_mended(mended.place, &frame[..n], out)
         }
-        FrameMended::Refused(r) => put_refusal(r, out),
+        Err(r) => put_refusal(r, out),
     }
 }
 

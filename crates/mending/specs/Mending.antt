@@ -1,10 +1,9 @@
 -- Document 02, K8: a capture with one flipped bit, mended.
 use Rattle.std.specs.Prelude.{ℕ, zero, suc, ◌+◌, ◌-◌, ◌*◌, Bool, not, cond, List, eqb, length}
-use Rattle.answer.specs.Answer.{Outcome, refused, accepted, refuse_if, on_accepted, and_then, is_accepted, in_room, number_of}
+use Rattle.answer.specs.Answer.{Outcome, refused, accepted, refuse_if, on_accepted, and_then, is_accepted, in_room}
 use Rattle.crc.specs.Places.{flip}
 use Rattle.link.specs.Frame.{Frame, read_frame}
 use Rattle.mending.specs.declared.FrameMended.{FrameMended}
-use Rattle.mending.specs.declared.FrameMended.TheVariants.{Accepted, Refused}
 
 -- the bytes with one bit flipped; the place is counted as in condition 3, in bits from the length byte, and before that stand the start byte's eight
 abbrev pub flipped_at : List ℕ → ℕ → List ℕ
@@ -41,13 +40,5 @@ unfoldable pub mend_in_room : ℕ → List ℕ → Outcome Mended
 mend_in_room room s = and_then (mend s) (λ m. on_accepted (λ bytes. record { place = m.place; frame = bytes }) (in_room room (accepted m.frame)))
 
 -- what the call hands back in numbers: the place and the count of bytes written
-pub record Numbers : Type 0 where
-  pub place : ℕ
-  pub count : ℕ
-
-abbrev pub numbers : Mended → Numbers
+abbrev pub numbers : Mended → FrameMended
 numbers m = record { place = m.place; count = length m.frame }
-
-abbrev pub outcome_of : FrameMended → Outcome Numbers
-outcome_of (Accepted p n) = accepted (record { place = p; count = n })
-outcome_of (Refused r) = refused (number_of r)

@@ -2,10 +2,10 @@
 pub mod Accepts
 pub mod Carried
 pub mod Checked
+pub mod Counts
 pub mod Decode
 pub mod Duration
 pub mod Encode
-pub mod Encoded
 pub mod Fault
 pub mod Framed
 pub mod Item

@@ -1,13 +1,11 @@
 -- Document 01, "Omni-Link messages", type 0F: commands and their durations.
 use Rattle.std.specs.Prelude.{ℕ, ◌-◌, Bool, cond, not, ◌&&◌, List, eqb, ltb, leb, length, get_or}
-use Rattle.answer.specs.Answer.{Outcome, refused, accepted, refuse_if, number_of}
+use Rattle.answer.specs.Answer.{Outcome, accepted, refuse_if}
 use Rattle.message.specs.Lists.{word_of}
 use Rattle.message.specs.declared.command.Duration.{Duration}
 use Rattle.message.specs.declared.command.Duration.TheVariants.{None, Seconds, Minutes, Hours}
 use Rattle.message.specs.declared.command.Command.{Command}
 use Rattle.message.specs.declared.command.Command.TheVariants.{Off, On, AllOff, AllOn, Level, Decrement, Increment, SetCounter}
-use Rattle.message.specs.declared.command.CommandRead.{CommandRead}
-use Rattle.message.specs.declared.command.CommandRead.TheVariants.{Accepted, Refused}
 
 -- the P1 of a duration: 0, 1-99, 101-199, 201-218
 abbrev pub duration_listed : ℕ → Bool
@@ -49,7 +47,3 @@ checked_command number p1 p2 = refuse_if (not (command_listed number p1 p2)) 8 (
 unfoldable pub read_command : List ℕ → Outcome Command
 read_command d =
     refuse_if (not (eqb (length d) 4)) 7 (checked_command (get_or d 0 0) (get_or d 1 0) (word_of (get_or d 2 0) (get_or d 3 0)))
-
-abbrev pub command_read : CommandRead → Outcome Command
-command_read (Accepted c) = accepted c
-command_read (Refused r) = refused (number_of r)

@@ -1,6 +1,6 @@
 -- The C interface's item calls: the message reader's refusals, then 8 for a message of another type and for an index past the last.
 use Rattle.std.specs.Prelude.{ℕ, zero, suc, not, List, [], ◌∷◌, eqb, drop}
-use Rattle.answer.specs.Answer.{Outcome, refused, accepted, refuse_if, and_then, number_of}
+use Rattle.answer.specs.Answer.{Outcome, refused, accepted, refuse_if, and_then}
 use Rattle.link.specs.Frame.{Frame, read_frame}
 use Rattle.message.specs.Command.{read_command}
 use Rattle.message.specs.Lists.{zone_status_type, events_type, message_status_type, zones, words, texts}
@@ -10,12 +10,6 @@ use Rattle.message.specs.declared.command.Command.{Command}
 use Rattle.message.specs.declared.log.LogEntry.{LogEntry}
 use Rattle.message.specs.declared.lists.Zone.{Zone}
 use Rattle.message.specs.declared.lists.TextMessage.{TextMessage}
-use Rattle.message.specs.declared.item.ZoneRead.{ZoneRead}
-use Rattle.message.specs.declared.item.ZoneRead.TheVariants as Z
-use Rattle.message.specs.declared.item.WordRead.{WordRead}
-use Rattle.message.specs.declared.item.WordRead.TheVariants as W
-use Rattle.message.specs.declared.item.TextRead.{TextRead}
-use Rattle.message.specs.declared.item.TextRead.TheVariants as T
 
 -- the frame of a whole message of a type: the message reader's refusals, then 8 for another type
 unfoldable pub frame_of : ℕ → List ℕ → Outcome Frame
@@ -57,15 +51,3 @@ log_item i = item_of 0x0E (λ d. and_then (read_log d) (λ e. item_at (log_field
 -- the command of a command message
 abbrev pub command_item : List ℕ → Outcome Command
 command_item = item_of 0x0F read_command
-
-abbrev pub zone_read : ZoneRead → Outcome Zone
-zone_read (Z.Accepted z) = accepted z
-zone_read (Z.Refused r) = refused (number_of r)
-
-abbrev pub word_read : WordRead → Outcome ℕ
-word_read (W.Accepted e) = accepted e
-word_read (W.Refused r) = refused (number_of r)
-
-abbrev pub text_read : TextRead → Outcome TextMessage
-text_read (T.Accepted t) = accepted t
-text_read (T.Refused r) = refused (number_of r)

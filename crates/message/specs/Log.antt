@@ -1,10 +1,8 @@
 -- Document 01, "Omni-Link messages", type 0E: log entries.
 use Rattle.std.specs.Prelude.{ℕ, Bool, not, ◌&&◌, ◌||◌, List, eqb, leb, length, get_or}
-use Rattle.answer.specs.Answer.{Outcome, refused, accepted, refuse_if, number_of}
+use Rattle.answer.specs.Answer.{Outcome, accepted, refuse_if}
 use Rattle.message.specs.Lists.{word_of}
 use Rattle.message.specs.declared.log.LogEntry.{LogEntry}
-use Rattle.message.specs.declared.log.LogRead.{LogRead}
-use Rattle.message.specs.declared.log.LogRead.TheVariants.{Accepted, Refused}
 
 -- calendar ranges 1-12, 1-31, 0-23, 0-59
 unfoldable pub calendar_listed : ℕ → ℕ → ℕ → ℕ → Bool
@@ -32,7 +30,3 @@ log_of d =
 -- log entry: L=0B
 unfoldable pub read_log : List ℕ → Outcome LogEntry
 read_log d = refuse_if (not (eqb (length d) 10)) 7 (refuse_if (not (log_listed (log_of d))) 8 (accepted (log_of d)))
-
-abbrev pub log_read : LogRead → Outcome LogEntry
-log_read (Accepted e) = accepted e
-log_read (Refused r) = refused (number_of r)

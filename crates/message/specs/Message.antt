@@ -1,6 +1,6 @@
 -- Document 01, "Omni-Link messages": every type.
 use Rattle.std.specs.Prelude.{ℕ, ◌%◌, Bool, cond, not, ◌&&◌, ◌||◌, List, eqb, ltb, leb, length, get_or, drop}
-use Rattle.answer.specs.Answer.{Outcome, refused, accepted, refuse_if, and_then, on_accepted, number_of}
+use Rattle.answer.specs.Answer.{Outcome, refused, accepted, refuse_if, and_then, on_accepted}
 use Rattle.link.specs.Frame.{read_frame, write_frame}
 use Rattle.message.specs.Command.{read_command}
 use Rattle.message.specs.Lists.{zone_status_type, events_type, message_status_type, zones, zones_listed, words, texts}
@@ -11,8 +11,6 @@ use Rattle.message.specs.declared.message.Fixed.{Fixed}
 use Rattle.message.specs.declared.message.Fixed.TheVariants as F
 use Rattle.message.specs.declared.message.Message.{Message as Counted}
 use Rattle.message.specs.declared.message.Message.TheVariants as C
-use Rattle.message.specs.declared.message.MessageRead.{MessageRead}
-use Rattle.message.specs.declared.message.MessageRead.TheVariants.{Accepted, Refused}
 
 -- a message, with its list
 pub data Message : Type 0 where
@@ -109,7 +107,3 @@ counted (fixed f) = C.Fixed f
 counted (zone_status zs) = C.ZoneStatus (length zs)
 counted (events es) = C.Events (length es)
 counted (message_status ts) = C.MessageStatus (length ts)
-
-abbrev pub message_read : MessageRead → Outcome Counted
-message_read (Accepted m) = accepted m
-message_read (Refused r) = refused (number_of r)

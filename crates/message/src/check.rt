@@ -1,223 +1,154 @@
-// The checks of messages by numbers: which refusal a type and data bytes have, with no message made of them.
+// The checks of messages: which refusal a type and data bytes have, with no message made of them.
 ghost use Rattle.std.specs.Prelude.{◌≡◌};
-ghost use Rattle.answer.specs.Answer.{number_of};
+ghost use Rattle.answer.specs.Answer.{on_accepted, outcome_of};
 ghost use Rattle.message.specs.Command.{read_command};
 ghost use Rattle.message.specs.Log.{read_log};
-ghost use Rattle.message.specs.Message.{read_login, read_zone_request, read_zone_status, read_events, read_message_status, with_data, message_of};
-ghost use Rattle.message.specs.Parts.{fault_of, is_plain, plain_fault, fault_number, texts_in, items_in};
+ghost use Rattle.message.specs.Message.{read_plain, read_login, read_zone_request, read_zone_status, read_events, read_message_status, with_data, message_of};
+ghost use Rattle.message.specs.declared.message.Fixed.{Fixed};
+ghost use Rattle.message.specs.Parts.{nothing, is_plain};
 
 use crate::{command, lists, log, message};
 use answer::Refusal;
 
-// No fault.
-pub(crate) const NONE: u8 = 0;
-
-pub(crate) fn plain(data: &[u8]) -> u8
-    ensures { result ≡ plain_fault «data».now }
+#[tactic(auto, unfolding(crate::specs::Message::read_plain))]
+pub(crate) fn plain(data: &[u8]) -> Result<(), Refusal>
+    ensures { (f : Fixed) → outcome_of result ≡ on_accepted nothing (read_plain f «data».now) }
 {
     if data.len() != 0 {
-        return 7;
+        return Err(Refusal::TypeLength);
     }
-    NONE
+    Ok(())
 }
 
-fn login(data: &[u8]) -> u8
-    ensures { result ≡ fault_of (read_login «data».now) }
+#[tactic(auto, unfolding(crate::specs::Message::read_login))]
+fn login(data: &[u8]) -> Result<(), Refusal>
+    ensures { outcome_of result ≡ on_accepted nothing (read_login «data».now) }
 {
     if data.len() != 4 {
-        return 7;
+        return Err(Refusal::TypeLength);
     }
-    if message::digits_listed(data[0], data[1], data[2], data[3]) {
-        return NONE;
+    if !message::digits_listed(data[0], data[1], data[2], data[3]) {
+        return Err(Refusal::Field);
     }
-    8
+    Ok(())
 }
 
-fn zone_request(data: &[u8]) -> u8
-    ensures { result ≡ fault_of (read_zone_request «data».now) }
+#[tactic(auto, unfolding(crate::specs::Message::read_zone_request))]
+fn zone_request(data: &[u8]) -> Result<(), Refusal>
+    ensures { outcome_of result ≡ on_accepted nothing (read_zone_request «data».now) }
 {
     if data.len() != 2 {
-        return 7;
+        return Err(Refusal::TypeLength);
     }
-    if message::order_listed(data[0], data[1]) {
-        return NONE;
+    if !message::order_listed(data[0], data[1]) {
+        return Err(Refusal::Field);
     }
-    8
+    Ok(())
 }
 
-fn zone_status(data: &[u8]) -> u8
-    ensures { result ≡ fault_of (read_zone_status «data».now) }
+#[tactic(auto, unfolding(crate::specs::Message::read_zone_status))]
+fn zone_status(data: &[u8]) -> Result<(), Refusal>
+    ensures { outcome_of result ≡ on_accepted nothing (read_zone_status «data».now) }
 {
     let n = data.len();
-    if n % 2 != 0 {
-        return 7;
+    if n % 2 != 0 || n == 0 || 64 < n {
+        return Err(Refusal::TypeLength);
     }
-    if n == 0 {
-        return 7;
+    if !message::zones_listed(data) {
+        return Err(Refusal::Field);
     }
-    if 64 < n {
-        return 7;
-    }
-    if message::zones_listed(data) {
-        return NONE;
-    }
-    8
+    Ok(())
 }
 
-fn events(data: &[u8]) -> u8
-    ensures { result ≡ fault_of (read_events «data».now) }
+#[tactic(auto, unfolding(crate::specs::Message::read_events))]
+fn events(data: &[u8]) -> Result<(), Refusal>
+    ensures { outcome_of result ≡ on_accepted nothing (read_events «data».now) }
 {
     let n = data.len();
-    if n % 2 != 0 {
-        return 7;
+    if n % 2 != 0 || 64 < n {
+        return Err(Refusal::TypeLength);
     }
-    if 64 < n {
-        return 7;
-    }
-    NONE
+    Ok(())
 }
 
-fn message_status(data: &[u8]) -> u8
-    ensures { result ≡ fault_of (read_message_status «data».now) }
+#[tactic(auto, unfolding(crate::specs::Message::read_message_status, crate::specs::Message::status_length))]
+fn message_status(data: &[u8]) -> Result<(), Refusal>
+    ensures { outcome_of result ≡ on_accepted nothing (read_message_status «data».now) }
 {
-    if message::status_length(data.len()) {
-        if data[0] != 0 {
-            return 8;
+    match data.len() {
+        5 | 17 | 33 => {
+            if data[0] != 0 {
+                return Err(Refusal::Field);
+            }
+            Ok(())
         }
-        return NONE;
+        _ => Err(Refusal::TypeLength),
     }
-    7
 }
 
-fn log_entry(data: &[u8]) -> u8
-    ensures { result ≡ fault_of (read_log «data».now) }
+#[tactic(auto, unfolding(crate::specs::Log::read_log))]
+fn log_entry(data: &[u8]) -> Result<(), Refusal>
+    ensures { outcome_of result ≡ on_accepted nothing (read_log «data».now) }
 {
     if data.len() != 10 {
-        return 7;
+        return Err(Refusal::TypeLength);
     }
-    if log::log_listed(log::log_of(data)) {
-        return NONE;
+    if !log::log_listed(log::log_of(data)) {
+        return Err(Refusal::Field);
     }
-    8
+    Ok(())
 }
 
-fn command(data: &[u8]) -> u8
-    ensures { result ≡ fault_of (read_command «data».now) }
+#[tactic(auto, unfolding(crate::specs::Command::read_command, crate::specs::Command::checked_command))]
+fn command(data: &[u8]) -> Result<(), Refusal>
+    ensures { outcome_of result ≡ on_accepted nothing (read_command «data».now) }
 {
     if data.len() != 4 {
-        return 7;
+        return Err(Refusal::TypeLength);
     }
-    if command::command_listed(data[0], data[1], lists::word(data[2], data[3])) {
-        return NONE;
+    if !command::command_listed(data[0], data[1], lists::word(data[2], data[3])) {
+        return Err(Refusal::Field);
     }
-    8
+    Ok(())
 }
 
 // The types with data; other types are 6.
-fn with_data(kind: u8, data: &[u8]) -> u8
-    ensures { result ≡ fault_of (with_data kind «data».now) }
+#[tactic(auto, unfolding(crate::specs::Message::with_data))]
+fn with_data(kind: u8, data: &[u8]) -> Result<(), Refusal>
+    ensures { outcome_of result ≡ on_accepted nothing (with_data kind «data».now) }
 {
-    if kind == 0x20 {
-        return login(data);
+    match kind {
+        0x20 => login(data),
+        0x15 => zone_request(data),
+        lists::ZONE_STATUS => zone_status(data),
+        lists::EVENTS => events(data),
+        lists::MESSAGE_STATUS => message_status(data),
+        0x0E => log_entry(data),
+        0x0F => command(data),
+        _ => Err(Refusal::Unknown),
     }
-    if kind == 0x15 {
-        return zone_request(data);
-    }
-    if kind == lists::ZONE_STATUS {
-        return zone_status(data);
-    }
-    if kind == lists::EVENTS {
-        return events(data);
-    }
-    if kind == lists::MESSAGE_STATUS {
-        return message_status(data);
-    }
-    if kind == 0x0E {
-        return log_entry(data);
-    }
-    if kind == 0x0F {
-        return command(data);
-    }
-    6
 }
 
-// Whether a type has no data.
+// Whether a type has no data. As `matches!` it was compiled to two tests: a command took 15 instructions more to read and to write,
+// an acknowledge 9 and 6.
 pub(crate) fn is_plain(kind: u8) -> bool
     ensures { result ≡ is_plain kind }
 {
-    if kind == 0x05 {
-        return true;
-    }
-    if kind == 0x06 {
-        return true;
-    }
-    if kind == 0x0D {
-        return true;
-    }
-    if kind == 0x11 {
-        return true;
-    }
-    if kind == 0x13 {
-        return true;
-    }
-    if kind == 0x21 {
-        return true;
-    }
-    if kind == 0x22 {
-        return true;
-    }
-    false
+    kind == 0x05
+        || kind == 0x06
+        || kind == 0x0D
+        || kind == 0x11
+        || kind == 0x13
+        || kind == 0x21
+        || kind == 0x22
 }
 
-// The number of the refusal that a type and data bytes have, or none.
-pub(crate) fn fault(kind: u8, data: &[u8]) -> u8
-    ensures { result ≡ fault_of (message_of kind «data».now) }
+// What the message of a type and data bytes is refused with: 6, 7, 8.
+pub(crate) fn check(kind: u8, data: &[u8]) -> Result<(), Refusal>
+    ensures { outcome_of result ≡ on_accepted nothing (message_of kind «data».now) }
 {
-    // Lent anew, the slice is passed in registers.
-    let data = &data[..];
     if is_plain(kind) {
         return plain(data);
     }
     with_data(kind, data)
-}
-
-// The refusal of a fault that is not none.
-pub(crate) fn refusal(fault: u8) -> Refusal
-    ensures { number_of result ≡ fault_number fault }
-{
-    if fault == 6 {
-        return Refusal::Unknown;
-    }
-    if fault == 7 {
-        return Refusal::TypeLength;
-    }
-    Refusal::Field
-}
-
-fn texts_in(size: u8) -> u8
-    ensures { result ≡ texts_in size }
-{
-    if size == 5 {
-        return 16;
-    }
-    if size == 17 {
-        return 64;
-    }
-    128
-}
-
-// How many items a message of a type has in so many data bytes.
-pub(crate) fn items_in(kind: u8, size: u8) -> u8
-    ensures { result ≡ items_in kind size }
-{
-    if kind == lists::ZONE_STATUS {
-        return size / 2;
-    }
-    if kind == lists::EVENTS {
-        return size / 2;
-    }
-    if kind == lists::MESSAGE_STATUS {
-        return texts_in(size);
-    }
-    0
 }

@@ -1,63 +1,43 @@
 // Items of messages: of data bytes that carry a list, and of whole messages by their bytes.
 ghost use Rattle.std.specs.Prelude.{◌≡◌, ◌<◌, drop, true};
-ghost use Rattle.answer.specs.Answer.{accepted, and_then, on_accepted};
+ghost use Rattle.answer.specs.Answer.{accepted, on_accepted, outcome_of};
 ghost use Rattle.answer.specs.Packed.{packed};
-ghost use Rattle.link.specs.Frame.{header, outcome_of};
-ghost use Rattle.message.specs.Command.{duration_of, command_listed, command_of, read_command, command_read};
+ghost use Rattle.link.specs.Frame.{header};
+ghost use Rattle.message.specs.Command.{duration_of, command_listed, command_of, read_command};
 ghost use Rattle.message.specs.Fields.{duration_unit, command_fields};
 ghost use Rattle.message.specs.Lists.{zones, words, texts};
-ghost use Rattle.message.specs.Log.{read_log};
-ghost use Rattle.message.specs.Message.{message_of};
-ghost use Rattle.message.specs.Parts.{header_of, two_bits, Taken};
-ghost use Rattle.message.specs.Item.{frame_of, item_at, zone_item, event_item, text_item, log_fields, log_item, command_item, zone_read, word_read, text_read};
+ghost use Rattle.message.specs.Parts.{two_bits, Taken};
+ghost use Rattle.message.specs.Item.{frame_of, item_at, zone_item, event_item, text_item, log_fields, log_item, command_item};
 
-use crate::command::CommandRead;
+use crate::command::Command;
 use crate::lists::{TextMessage, Zone};
-use crate::log::{LogEntry, LogRead};
-use crate::{check, lists};
+use crate::log::LogEntry;
+use crate::{command, lists, log, message};
 use answer::Refusal;
-use link::frame::FrameRead;
+use link::frame::Header;
 
 const LOG_ENTRY: u8 = 0x0E;
 
 const COMMAND: u8 = 0x0F;
 
-#[derive(Drop)]
-pub enum ZoneRead {
-    Accepted(Zone),
-    Refused(Refusal),
-}
-
-#[derive(Drop)]
-pub enum WordRead {
-    Accepted(u16),
-    Refused(Refusal),
-}
-
-#[derive(Drop)]
-pub enum TextRead {
-    Accepted(TextMessage),
-    Refused(Refusal),
-}
-
 // Zone i of data bytes that carry zones; past the last is 8.
-fn zone_at(data: &[u8], i: usize) -> ZoneRead
-    ensures { zone_read result ≡ item_at (zones «data».now) i }
+fn zone_at(data: &[u8], i: usize) -> Result<Zone, Refusal>
+    ensures { outcome_of result ≡ item_at (zones «data».now) i }
 {
     if data.len() / 2 <= i {
-        return ZoneRead::Refused(Refusal::Field);
+        return Err(Refusal::Field);
     }
-    ZoneRead::Accepted(lists::zone_of(data[2 * i], data[2 * i + 1]))
+    Ok(lists::zone_of(data[2 * i], data[2 * i + 1]))
 }
 
 // Event i of data bytes that carry events; past the last is 8.
-fn event_at(data: &[u8], i: usize) -> WordRead
-    ensures { word_read result ≡ item_at (words «data».now) i }
+fn event_at(data: &[u8], i: usize) -> Result<u16, Refusal>
+    ensures { outcome_of result ≡ item_at (words «data».now) i }
 {
     if data.len() / 2 <= i {
-        return WordRead::Refused(Refusal::Field);
+        return Err(Refusal::Field);
     }
-    WordRead::Accepted(lists::word(data[2 * i], data[2 * i + 1]))
+    Ok(lists::word(data[2 * i], data[2 * i + 1]))
 }
 
 // The two bits of message k of the four in a byte, the lowest-numbered in the high bits.
@@ -69,133 +49,83 @@ fn two_bits(b: u8, k: u8) -> u8
 }
 
 // Text message i of the data bytes of a message status; past the last is 8.
-fn text_at(data: &[u8], i: usize) -> TextRead
-    ensures { text_read result ≡ item_at (texts (drop 1 «data».now)) i }
+fn text_at(data: &[u8], i: usize) -> Result<TextMessage, Refusal>
+    ensures { outcome_of result ≡ item_at (texts (drop 1 «data».now)) i }
 {
-    if data.len() == 0 {
-        return TextRead::Refused(Refusal::Field);
-    }
-    if data.len() - 1 <= i / 4 {
-        return TextRead::Refused(Refusal::Field);
+    if data.len() <= 1 + i / 4 {
+        return Err(Refusal::Field);
     }
     let bits = two_bits(data[1 + i / 4], (i % 4) as u8);
-    TextRead::Accepted(lists::text_of(bits))
+    Ok(lists::text_of(bits))
 }
 
 // Field i of a log entry, in the paper's order, parameter 2 as one; past the last is 8.
-fn log_field(e: LogEntry, i: usize) -> WordRead
-    ensures { word_read result ≡ item_at (log_fields e) i }
+fn log_field(e: LogEntry, i: usize) -> Result<u16, Refusal>
+    ensures { outcome_of result ≡ item_at (log_fields e) i }
 {
     let fields = [
-        e.number as u16,
-        e.time_valid as u16,
-        e.month as u16,
-        e.day as u16,
-        e.hour as u16,
-        e.minute as u16,
-        e.event_type as u16,
-        e.parameter_1 as u16,
+        u16::from(e.number),
+        u16::from(e.time_valid),
+        u16::from(e.month),
+        u16::from(e.day),
+        u16::from(e.hour),
+        u16::from(e.minute),
+        u16::from(e.event_type),
+        u16::from(e.parameter_1),
         e.parameter_2,
     ];
-    if 9 <= i {
-        return WordRead::Refused(Refusal::Field);
-    }
-    WordRead::Accepted(fields[i])
+    fields.get(i).copied().ok_or(Refusal::Field)
 }
 
-// Field i of the log entry that data bytes carry.
-fn log_field_at(data: &[u8], i: usize) -> WordRead
-    ensures { word_read result ≡ and_then (read_log «data».now) (λ e. item_at (log_fields e) i) }
-{
-    match crate::log::read(data) {
-        LogRead::Accepted(e) => log_field(e, i),
-        LogRead::Refused(r) => WordRead::Refused(r),
-    }
-}
-
-// A header of the type that is asked for; another type is 8.
-fn of_kind(wanted: u8, kind: u8, count: u8) -> FrameRead
-    ensures { outcome_of result ≡ header_of wanted kind count }
-{
-    if kind != wanted {
-        return FrameRead::Refused(Refusal::Field);
-    }
-    FrameRead::Accepted { kind, count }
-}
-
-// The header of a type and its data bytes, so many: 6, 7, 8, then 8 for another type.
-fn checked_header(wanted: u8, kind: u8, count: u8, data: &[u8]) -> FrameRead
-    ensures { outcome_of result ≡ and_then (message_of kind «data».now) (λ m. header_of wanted kind count) }
-{
-    let fault = check::fault(kind, data);
-    if fault != check::NONE {
-        return FrameRead::Refused(check::refusal(fault));
-    }
-    of_kind(wanted, kind, count)
-}
-
-// The header of a whole message of a type.
-fn header_of(bytes: &[u8], wanted: u8) -> FrameRead
+// The header of a whole message of a type; another type is 8.
+fn header_of(bytes: &[u8], wanted: u8) -> Result<Header, Refusal>
     ensures { outcome_of result ≡ on_accepted header (frame_of wanted bytes.now) }
 {
-    match link::frame::read(bytes) {
-        FrameRead::Accepted { kind, count } => {
-            checked_header(wanted, kind, count, link::frame::data(bytes, count))
-        }
-        FrameRead::Refused(r) => FrameRead::Refused(r),
+    let h = message::header(bytes)?;
+    if h.kind != wanted {
+        return Err(Refusal::Field);
     }
+    Ok(h)
 }
 
 // Zone i of a zone status.
-pub fn zone(bytes: &[u8], i: usize) -> ZoneRead
-    ensures { zone_read result ≡ zone_item i bytes.now }
+pub fn zone(bytes: &[u8], i: usize) -> Result<Zone, Refusal>
+    ensures { outcome_of result ≡ zone_item i bytes.now }
 {
-    match header_of(bytes, lists::ZONE_STATUS) {
-        FrameRead::Accepted { kind: _, count } => zone_at(link::frame::data(bytes, count), i),
-        FrameRead::Refused(r) => ZoneRead::Refused(r),
-    }
+    let h = header_of(bytes, lists::ZONE_STATUS)?;
+    zone_at(link::frame::data(bytes, h.count), i)
 }
 
 // Event i of a list of events.
-pub fn event(bytes: &[u8], i: usize) -> WordRead
-    ensures { word_read result ≡ event_item i bytes.now }
+pub fn event(bytes: &[u8], i: usize) -> Result<u16, Refusal>
+    ensures { outcome_of result ≡ event_item i bytes.now }
 {
-    match header_of(bytes, lists::EVENTS) {
-        FrameRead::Accepted { kind: _, count } => event_at(link::frame::data(bytes, count), i),
-        FrameRead::Refused(r) => WordRead::Refused(r),
-    }
+    let h = header_of(bytes, lists::EVENTS)?;
+    event_at(link::frame::data(bytes, h.count), i)
 }
 
 // Text message i of a message status.
-pub fn text_message(bytes: &[u8], i: usize) -> TextRead
-    ensures { text_read result ≡ text_item i bytes.now }
+pub fn text_message(bytes: &[u8], i: usize) -> Result<TextMessage, Refusal>
+    ensures { outcome_of result ≡ text_item i bytes.now }
 {
-    match header_of(bytes, lists::MESSAGE_STATUS) {
-        FrameRead::Accepted { kind: _, count } => text_at(link::frame::data(bytes, count), i),
-        FrameRead::Refused(r) => TextRead::Refused(r),
-    }
+    let h = header_of(bytes, lists::MESSAGE_STATUS)?;
+    text_at(link::frame::data(bytes, h.count), i)
 }
 
 // Field i of a log entry.
-pub fn log_entry(bytes: &[u8], i: usize) -> WordRead
-    ensures { word_read result ≡ log_item i bytes.now }
+pub fn log_entry(bytes: &[u8], i: usize) -> Result<u16, Refusal>
+    ensures { outcome_of result ≡ log_item i bytes.now }
 {
-    match header_of(bytes, LOG_ENTRY) {
-        FrameRead::Accepted { kind: _, count } => log_field_at(link::frame::data(bytes, count), i),
-        FrameRead::Refused(r) => WordRead::Refused(r),
-    }
+    let h = header_of(bytes, LOG_ENTRY)?;
+    log_field(log::log_of(link::frame::data(bytes, h.count)), i)
 }
 
 // The command of a command message.
-pub fn command(bytes: &[u8]) -> CommandRead
-    ensures { command_read result ≡ command_item bytes.now }
+pub fn command(bytes: &[u8]) -> Result<Command, Refusal>
+    ensures { outcome_of result ≡ command_item bytes.now }
 {
-    match header_of(bytes, COMMAND) {
-        FrameRead::Accepted { kind: _, count } => crate::command::read(link::frame::data(
-            bytes, count,
-        )),
-        FrameRead::Refused(r) => CommandRead::Refused(r),
-    }
+    let h = header_of(bytes, COMMAND)?;
+    Ok(command::of_data(link::frame::data(bytes, h.count)))
 }
 
 // The unit of the duration that P1 stands for: 0 none, 1 seconds, 2 minutes, 3 hours.
@@ -227,12 +157,13 @@ fn packed_command(data: &[u8]) -> u64
     packed_parameters(data[0], data[1], lists::word(data[2], data[3]))
 }
 
-// The command of a command message, packed for C: command, unit of duration, count, P2.
+// The command of a command message, packed for C: command, unit of duration, count, P2. Beside `command`, since a typed command for C goes
+// through memory.
 pub fn command_packed(bytes: &[u8]) -> u64
     ensures { result ≡ packed (on_accepted command_fields (command_item bytes.now)) }
 {
     match header_of(bytes, COMMAND) {
-        FrameRead::Accepted { kind: _, count } => packed_command(link::frame::data(bytes, count)),
-        FrameRead::Refused(r) => answer::pack_refusal(r),
+        Ok(h) => packed_command(link::frame::data(bytes, h.count)),
+        Err(r) => answer::pack_refusal(r),
     }
 }

@@ -2,6 +2,7 @@
 ghost use Rattle.std.specs.Prelude.{◌≡◌};
 ghost use Rattle.message.specs.Lists.{condition_of, latched_of, arming_of, zone_of, zone_listed, text_of, word_of};
 
+// A type stays a byte: C hands over any, and one that is no type is answered 6.
 pub(crate) const ZONE_STATUS: u8 = 0x16;
 
 pub(crate) const EVENTS: u8 = 0x23;
@@ -9,7 +10,7 @@ pub(crate) const EVENTS: u8 = 0x23;
 pub(crate) const MESSAGE_STATUS: u8 = 0x25;
 
 // Status bits 0 and 1.
-#[derive(Drop)]
+#[derive(Clone, Copy)]
 pub enum Condition {
     Secure,
     NotReady,
@@ -17,7 +18,7 @@ pub enum Condition {
 }
 
 // Status bits 2 and 3.
-#[derive(Drop)]
+#[derive(Clone, Copy)]
 pub enum LatchedAlarm {
     Secure,
     Tripped,
@@ -25,7 +26,7 @@ pub enum LatchedAlarm {
 }
 
 // Status bits 4 and 5.
-#[derive(Drop)]
+#[derive(Clone, Copy)]
 pub enum Arming {
     Disarmed,
     Armed,
@@ -33,7 +34,7 @@ pub enum Arming {
     BypassedBySystem,
 }
 
-#[derive(Drop)]
+#[derive(Clone, Copy)]
 pub struct Zone {
     pub condition: Condition,
     pub latched_alarm: LatchedAlarm,
@@ -44,52 +45,42 @@ pub struct Zone {
 }
 
 // The status of a text message: of its two bits the low and the high one.
-#[derive(Drop)]
+#[derive(Clone, Copy)]
 pub struct TextMessage {
     pub displayed: bool,
     pub not_acknowledged: bool,
 }
 
+// A function of the whole byte, as are those of the other fields, and no `TryFrom`: `zone_listed` has decided before.
 fn condition_of(status: u8) -> Condition
     ensures { result ≡ condition_of status }
 {
-    let bits = status % 4;
-    if bits == 0 {
-        return Condition::Secure;
+    match status % 4 {
+        0 => Condition::Secure,
+        1 => Condition::NotReady,
+        _ => Condition::Trouble,
     }
-    if bits == 1 {
-        return Condition::NotReady;
-    }
-    Condition::Trouble
 }
 
 fn latched_of(status: u8) -> LatchedAlarm
     ensures { result ≡ latched_of status }
 {
-    let bits = status / 4 % 4;
-    if bits == 0 {
-        return LatchedAlarm::Secure;
+    match status / 4 % 4 {
+        0 => LatchedAlarm::Secure,
+        1 => LatchedAlarm::Tripped,
+        _ => LatchedAlarm::Reset,
     }
-    if bits == 1 {
-        return LatchedAlarm::Tripped;
-    }
-    LatchedAlarm::Reset
 }
 
 fn arming_of(status: u8) -> Arming
     ensures { result ≡ arming_of status }
 {
-    let bits = status / 16 % 4;
-    if bits == 0 {
-        return Arming::Disarmed;
+    match status / 16 % 4 {
+        0 => Arming::Disarmed,
+        1 => Arming::Armed,
+        2 => Arming::BypassedByUser,
+        _ => Arming::BypassedBySystem,
     }
-    if bits == 1 {
-        return Arming::Armed;
-    }
-    if bits == 2 {
-        return Arming::BypassedByUser;
-    }
-    Arming::BypassedBySystem
 }
 
 // The zone that a status byte and a loop reading stand for.
@@ -109,13 +100,7 @@ pub(crate) fn zone_of(status: u8, reading: u8) -> Zone
 pub(crate) fn zone_listed(status: u8) -> bool
     ensures { result ≡ zone_listed status }
 {
-    if status % 4 == 3 {
-        return false;
-    }
-    if status / 4 % 4 == 3 {
-        return false;
-    }
-    status < 128
+    status % 4 != 3 && status / 4 % 4 != 3 && status < 128
 }
 
 // The text message of two bits.
@@ -132,5 +117,5 @@ pub(crate) fn text_of(bits: u8) -> TextMessage
 pub(crate) fn word(hi: u8, lo: u8) -> u16
     ensures { result ≡ word_of hi lo }
 {
-    hi as u16 * 256 + lo as u16
+    u16::from_be_bytes([hi, lo])
 }

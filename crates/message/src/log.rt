@@ -1,9 +1,8 @@
 // Type 0E, log entry.
 ghost use Rattle.std.specs.Prelude.{◌≡◌, length};
-ghost use Rattle.message.specs.Log.{calendar_listed, log_listed, log_of, read_log, log_read};
+ghost use Rattle.message.specs.Log.{calendar_listed, log_listed, log_of};
 
 use crate::lists;
-use answer::Refusal;
 
 #[derive(Clone, Copy)]
 pub struct LogEntry {
@@ -20,47 +19,23 @@ pub struct LogEntry {
     pub parameter_2: u16,
 }
 
-#[derive(Drop)]
-pub(crate) enum LogRead {
-    Accepted(LogEntry),
-    Refused(Refusal),
-}
-
 // Whether the calendar fields are in their ranges.
+#[tactic(auto, unfolding(crate::specs::Log::calendar_listed))]
 fn calendar_listed(month: u8, day: u8, hour: u8, minute: u8) -> bool
     ensures { result ≡ calendar_listed month day hour minute }
 {
-    if month < 1 {
-        return false;
-    }
-    if 12 < month {
-        return false;
-    }
-    if day < 1 {
-        return false;
-    }
-    if 31 < day {
-        return false;
-    }
-    if 23 < hour {
-        return false;
-    }
-    minute <= 59
+    (1..=12).contains(&month) && (1..=31).contains(&day) && hour <= 23 && minute <= 59
 }
 
 // Whether the fields of an entry are in their lists.
+#[tactic(auto, unfolding(crate::specs::Log::log_listed))]
 pub(crate) fn log_listed(e: LogEntry) -> bool
     ensures { result ≡ log_listed e }
 {
-    if e.number < 1 {
-        return false;
-    }
-    if e.time_valid == 0 {
-        return true;
-    }
-    calendar_listed(e.month, e.day, e.hour, e.minute)
+    1 <= e.number && (e.time_valid == 0 || calendar_listed(e.month, e.day, e.hour, e.minute))
 }
 
+// The log entry that ten data bytes carry.
 pub(crate) fn log_of(data: &[u8]) -> LogEntry
     requires { length «data».now ≡ 10 }
     ensures { result ≡ log_of «data».now }
@@ -76,18 +51,4 @@ pub(crate) fn log_of(data: &[u8]) -> LogEntry
         parameter_1: data[7],
         parameter_2: lists::word(data[8], data[9]),
     }
-}
-
-// The log entry that data bytes carry.
-pub(crate) fn read(data: &[u8]) -> LogRead
-    ensures { log_read result ≡ read_log «data».now }
-{
-    if data.len() != 10 {
-        return LogRead::Refused(Refusal::TypeLength);
-    }
-    let entry = log_of(data);
-    if log_listed(entry) {
-        return LogRead::Accepted(entry);
-    }
-    LogRead::Refused(Refusal::Field)
 }

@@ -1,10 +1,8 @@
 -- Document 01, "Cost", and document 02, K5: the tally's total, and one meter reply added to it.
 use Rattle.std.specs.Prelude.{ℕ, ◌+◌, ◌-◌, ◌^◌, List, ltb}
-use Rattle.answer.specs.Answer.{Outcome, refused, accepted, refuse_if, and_then, number_of}
+use Rattle.answer.specs.Answer.{Outcome, refused, accepted, refuse_if, and_then}
 use Rattle.tally.specs.Cost.{millionths}
 use Rattle.tally.specs.Reading.{reading}
-use Rattle.tally.specs.declared.Added.{Added}
-use Rattle.tally.specs.declared.Added.TheVariants.{Total, Refused}
 
 -- the exact sum of a total and a value, or 11 where it would pass 2^64 - 1
 unfoldable pub exact_sum : ℕ → ℕ → Outcome ℕ
@@ -26,8 +24,3 @@ kept_after total (accepted next) = next
 -- what the record holds after a reply
 abbrev pub total_after : ℕ → List ℕ → ℕ
 total_after total reply = kept_after total (next_total total reply)
-
--- what the code's answer says
-abbrev pub added_of : Added → Outcome ℕ
-added_of (Total total) = accepted total
-added_of (Refused r) = refused (number_of r)

@@ -4,31 +4,22 @@
 
 ghost use Rattle.std.specs.Prelude.{◌≡◌};
 ghost use Rattle.tally.specs.Cost.{millionths, power};
-ghost use Rattle.tally.specs.Total.{exact_sum, next_total, kept_after, total_after, added_of};
+ghost use Rattle.answer.specs.Answer.{outcome_of};
+ghost use Rattle.tally.specs.Total.{exact_sum, next_total, total_after};
 
-use crate::reading::Reading;
 use answer::Refusal;
 
 mod reading; // a meter reply, and the cost word that it carries
 
-// The largest total.
-const LARGEST_TOTAL: u64 = 0xFFFF_FFFF_FFFF_FFFF;
-
-// The tally: the exact sum of the accepted words, in millionths. It starts at 0.
+// The tally: the exact sum of the accepted words, in millionths. It starts at 0. Not `Copy`, since a copy would be a second sum.
 #[repr(C)]
 #[derive(Drop)]
 pub struct Tally {
     pub total: u64,
 }
 
-// What adding a meter reply to the tally answers: the new total, or the refusal.
-#[derive(Clone, Copy)]
-pub enum Added {
-    Total(u64),
-    Refused(Refusal),
-}
-
 // What the last digit counts in millionths, at a number of decimals. A word has at most 6; their own arms make a table of them.
+#[tactic(auto, unfolding(crate::specs::Cost::power))]
 fn power(decimals: u16) -> u64
     ensures { result ≡ power decimals }
 {
@@ -48,46 +39,30 @@ fn power(decimals: u16) -> u64
 pub fn convert(word: u16) -> u64
     ensures { result ≡ millionths word }
 {
-    ((word % 10000) as u64) * power(word / 10000)
+    u64::from(word % 10000) * power(word / 10000)
 }
 
 // A value added to a total.
-fn exact_sum(total: u64, value: u64) -> Added
-    ensures { added_of result ≡ exact_sum total value }
+fn exact_sum(total: u64, value: u64) -> Result<u64, Refusal>
+    ensures { outcome_of result ≡ exact_sum total value }
 {
-    if LARGEST_TOTAL - total < value {
-        return Added::Refused(Refusal::Total);
-    }
-    Added::Total(total + value)
+    total.checked_add(value).ok_or(Refusal::Total)
 }
 
 // The word of a meter reply added to a total.
-fn next_total(total: u64, reply: &[u8]) -> Added
-    ensures { added_of result ≡ next_total total reply.now }
+fn next_total(total: u64, reply: &[u8]) -> Result<u64, Refusal>
+    ensures { outcome_of result ≡ next_total total reply.now }
 {
-    match crate::reading::read(reply) {
-        Reading::Refused(r) => Added::Refused(r),
-        Reading::Word(word) => exact_sum(total, convert(word)),
-    }
+    let word = crate::reading::read(reply)?;
+    exact_sum(total, convert(word))
 }
 
-// What the record holds after an addition: the same total where it is refused.
-fn kept(total: u64, added: Added) -> u64
-    ensures { result ≡ kept_after total (added_of added) }
-{
-    match added {
-        Added::Total(next) => next,
-        Added::Refused(_) => total,
-    }
-}
-
-// Adds the word of a meter reply to the tally. A total is stored in any case: the same one where the reply is refused.
-pub fn add_reply(t: &mut Tally, reply: &[u8]) -> Added
-    ensures { (added_of result ≡ next_total t.old.total reply.now)
+// Adds the word of a meter reply to the tally, and answers the new total; a refusal leaves the tally as it was.
+pub fn add_reply(t: &mut Tally, reply: &[u8]) -> Result<u64, Refusal>
+    ensures { (outcome_of result ≡ next_total t.old.total reply.now)
         × (t.new.total ≡ total_after t.old.total reply.now) }
 {
-    let total = t.total;
-    let added = next_total(total, reply);
-    t.total = kept(total, added);
-    added
+    let total = next_total(t.total, reply)?;
+    t.total = total;
+    Ok(total)
 }

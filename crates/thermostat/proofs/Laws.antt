@@ -4,7 +4,6 @@ pub mod Float
 pub mod Map
 pub mod Rules
 pub mod Set
-pub mod Setpoints
 pub mod Step
 pub mod Temperature
 pub mod TextSet

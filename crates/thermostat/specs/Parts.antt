@@ -1,7 +1,6 @@
 -- What the functions behind the step promise one another.
-use Rattle.std.specs.Prelude.{ℕ, ◌+◌, ◌*◌, ◌/◌, ◌<◌, ◌≡◌, Bool, not, ◌&&◌, List, [], ◌∷◌, get_or}
-use Rattle.answer.specs.Bit.{bit}
-use Rattle.thermostat.specs.Registers.{Range, range, fahrenheit, in_any, listed, read_only, allowed}
+use Rattle.std.specs.Prelude.{ℕ, ◌+◌, ◌*◌, ◌/◌, Bool, List, [], ◌∷◌}
+use Rattle.thermostat.specs.Registers.{Range, range, fahrenheit, in_any, allowed}
 
 -- a register takes a byte
 abbrev pub takes : ℕ → ℕ → Bool
@@ -26,19 +25,9 @@ highest [] = 0
 highest (r ∷ []) = high r
 highest (r ∷ s ∷ rs) = highest (s ∷ rs)
 
--- what is stated of each register number, as a byte: 1 for yes; the least and the greatest byte that it takes
-abbrev pub listed_flag : ℕ → ℕ
-listed_flag r = bit (listed r)
-
-abbrev pub writable_flag : ℕ → ℕ
-writable_flag r = bit (listed r && not (read_only r))
-
+-- the least and the greatest byte that each register takes
 abbrev pub low_of : ℕ → ℕ
 low_of r = lowest (allowed r)
 
 abbrev pub high_of : ℕ → ℕ
 high_of r = highest (allowed r)
-
--- 256 bytes that say this of every register number
-pub record States (f : ℕ → ℕ) (bytes : List ℕ) : Type 0 where
-  pub entry : (r : ℕ) → r < 256 → get_or bytes r 0 ≡ f r

@@ -3,12 +3,8 @@ use Rattle.std.specs.Prelude.{ℕ, zero, suc, ◌+◌, ◌-◌, ◌*◌, Bool, c
 use Rattle.std.specs.Int.Signed.{le_z}
 use Rattle.std.specs.Float.{binary32}
 use Rattle.std.specs.Float.Ieee.{round, eq}
-use Rattle.answer.specs.Answer.{Outcome, refused, accepted, on_accepted, and_then, number_of}
+use Rattle.answer.specs.Answer.{Outcome, refused, accepted, on_accepted, and_then}
 use Rattle.answer.specs.Packed.{Field, byte}
-use Rattle.thermostat.specs.declared.temperature.Half.{Half}
-use Rattle.thermostat.specs.declared.temperature.Half.TheVariants.{Byte, Refused as HalfRefused}
-use Rattle.thermostat.specs.declared.setpoints.Pair.{Pair}
-use Rattle.thermostat.specs.declared.setpoints.Pair.TheVariants.{Bytes, Refused as PairRefused}
 
 -- byte n is n/2 - 40 degrees Celsius: n - 80 half degrees, below zero under 80. The f32 nearest to so many half degrees; the theorem `exact`
 -- says that it is that number itself
@@ -32,19 +28,9 @@ first_equal (suc k) n x = cond (eq x (celsius n)) (accepted n) (first_equal k (s
 unfoldable pub byte_of : Float → Outcome ℕ
 byte_of x = first_equal 256 0 x
 
--- what the code answers for one temperature
-abbrev pub half_of : Half → Outcome ℕ
-half_of (Byte n) = accepted n
-half_of (HalfRefused r) = refused (number_of r)
-
 -- a setpoint pair as bytes: cool, then heat; either value bad is 8
 abbrev pub bytes_of : Float → Float → Outcome (ℕ × ℕ)
 bytes_of cool heat = and_then (byte_of cool) (λ c. on_accepted (λ h. (c, h)) (byte_of heat))
-
--- what the code answers for a pair
-abbrev pub pair_of : Pair → Outcome (ℕ × ℕ)
-pair_of (Bytes cool heat) = accepted (cool, heat)
-pair_of (PairRefused r) = refused (number_of r)
 
 -- for C: cool byte, heat byte
 abbrev pub pair_fields : ℕ × ℕ → List Field

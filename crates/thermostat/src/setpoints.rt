@@ -1,22 +1,15 @@
 // A setpoint pair, cool and heat, in degrees Celsius.
 ghost use Rattle.std.specs.Prelude.{◌≡◌};
-ghost use Rattle.thermostat.specs.Temperature.{celsius, bytes_of, pair_of};
+ghost use Rattle.answer.specs.Answer.{outcome_of};
+ghost use Rattle.thermostat.specs.Temperature.{celsius, bytes_of};
 
-use crate::temperature::Half;
 use answer::Refusal;
 
 #[repr(C)]
-#[derive(Drop)]
+#[derive(Clone, Copy)]
 pub struct Setpoints {
     pub cool: f32,
     pub heat: f32,
-}
-
-// The two bytes of a pair.
-#[derive(Drop)]
-pub enum Pair {
-    Bytes { cool: u8, heat: u8 },
-    Refused(Refusal),
 }
 
 // The pair that two bytes make.
@@ -29,15 +22,11 @@ pub fn from_bytes(cool: u8, heat: u8) -> Setpoints
     }
 }
 
-// The two bytes that make a pair.
-pub fn to_bytes(p: Setpoints) -> Pair
-    ensures { pair_of result ≡ bytes_of p.cool p.heat }
+// The two bytes that make a pair: cool, then heat.
+pub fn to_bytes(p: Setpoints) -> Result<(u8, u8), Refusal>
+    ensures { outcome_of result ≡ bytes_of p.cool p.heat }
 {
-    match crate::temperature::to_byte(p.cool) {
-        Half::Refused(r) => Pair::Refused(r),
-        Half::Byte(cool) => match crate::temperature::to_byte(p.heat) {
-            Half::Refused(r) => Pair::Refused(r),
-            Half::Byte(heat) => Pair::Bytes { cool, heat },
-        },
-    }
+    let cool = crate::temperature::to_byte(p.cool)?;
+    let heat = crate::temperature::to_byte(p.heat)?;
+    Ok((cool, heat))
 }

@@ -1,95 +1,158 @@
 // Omni-Link frames and messages, read.
-use crate::output::{field, show};
+use crate::output::{Hex, show};
+use crate::reading::{byte, first, rest};
 use std::io;
 
-// The types of messages that have items.
-const LOG_ENTRY: u64 = 0x0E;
+const CONDITIONS: [&str; 3] = ["secure", "not ready", "trouble"];
 
-const COMMAND: u64 = 0x0F;
+const LATCHED_ALARMS: [&str; 3] = ["secure", "tripped", "reset"];
 
-const ZONES: u64 = 0x16;
+const ARMINGS: [&str; 4] = [
+    "disarmed",
+    "armed",
+    "bypassed by user",
+    "bypassed by system",
+];
 
-const EVENTS: u64 = 0x23;
+// The name of a number that counts from 0.
+fn name(names: &[&'static str], number: u8) -> &'static str {
+    names.get(usize::from(number)).copied().unwrap_or("")
+}
 
 pub(crate) fn read_frame(to: &impl Print, bytes: &[u8]) -> io::Result<()> {
-    let r = host::omnilink::omnilink_frame_read(bytes);
-    show(to, b" type #1, {2no }data$2", r, bytes)
-}
-
-// The name of a message, by its type.
-fn name(to: &impl Print, r: u64, bytes: &[u8]) -> io::Result<()> {
-    show(
-        to,
-        b"{1||||| acknowledge| negative acknowledge||||||| upload event log| log entry||| request system information|| request system status|| request zones '3 '4| zones|||||||||| login '3 '4 '5 '6| logout| request system events| events|| text messages}",
-        r,
-        bytes,
-    )
-}
-
-// How many items a message has: the fields of a log entry, the one command, or so many as it was answered.
-fn items_of(kind: u64, count: u64) -> usize {
-    match kind {
-        LOG_ENTRY => 9,
-        COMMAND => 1,
-        _ => count as usize,
-    }
+    let answer = host::omnilink::omnilink_frame_read(bytes);
+    show(to, answer, |[kind, count, ..]| {
+        let no = if count == 0 { "no " } else { "" };
+        let data = Hex(first(rest(bytes, 3), usize::from(count)));
+        print!(to; " type {kind:02X}, {no}data{data}")
+    })
 }
 
 pub(crate) fn read_message(to: &impl Print, bytes: &[u8]) -> io::Result<()> {
-    let r = host::messages::omnilink_message_read(bytes);
-    name(to, r, bytes)?;
-    let kind = field(r, 1);
-    items(to, kind, bytes, items_of(kind, field(r, 2)))
+    let answer = host::messages::omnilink_message_read(bytes);
+    show(
+        to,
+        answer,
+        |[kind, count, ..]| message(to, kind, count, bytes),
+    )
 }
 
-fn items(to: &impl Print, kind: u64, bytes: &[u8], count: usize) -> io::Result<()> {
-    let mut i = 0;
-    while i < count {
-        item(to, kind, bytes, i)?;
-        i += 1;
+// A message by its type, with so many items.
+fn message(to: &impl Print, kind: u8, count: u8, bytes: &[u8]) -> io::Result<()> {
+    match kind {
+        0x05 => print!(to; " acknowledge"),
+        0x06 => print!(to; " negative acknowledge"),
+        0x0D => print!(to; " upload event log"),
+        0x0E => log_entry(to, bytes),
+        0x0F => command(to, bytes),
+        0x11 => print!(to; " request system information"),
+        0x13 => print!(to; " request system status"),
+        0x15 => print!(to; " request zones {} {}", byte(bytes, 3), byte(bytes, 4)),
+        0x16 => zones(to, bytes, count),
+        0x20 => login(to, bytes),
+        0x21 => print!(to; " logout"),
+        0x22 => print!(to; " request system events"),
+        0x23 => events(to, bytes, count),
+        0x25 => text_messages(to, bytes, count),
+        _ => Ok(()),
+    }
+}
+
+// The fields of a log entry, 16 bits each.
+fn log_entry(to: &impl Print, bytes: &[u8]) -> io::Result<()> {
+    print!(to; " log entry")?;
+    for i in 0..9 {
+        let answer = host::messages::omnilink_log_entry(bytes, i);
+        show(to, answer, |[low, high, ..]| {
+            let field = u16::from_le_bytes([low, high]);
+            print!(to; " {field}")
+        })?;
     }
     Ok(())
 }
 
-fn item(to: &impl Print, kind: u64, bytes: &[u8], i: usize) -> io::Result<()> {
-    match kind {
-        LOG_ENTRY => show(
+fn login(to: &impl Print, bytes: &[u8]) -> io::Result<()> {
+    print!(to; " login")?;
+    for i in 3..7 {
+        print!(to; " {}", byte(bytes, i))?;
+    }
+    Ok(())
+}
+
+fn events(to: &impl Print, bytes: &[u8], count: u8) -> io::Result<()> {
+    print!(to; " events")?;
+    for i in 0..usize::from(count) {
+        let answer = host::messages::omnilink_event(bytes, i);
+        show(
             to,
-            b" &1",
-            host::messages::omnilink_log_entry(bytes, i),
-            bytes,
-        ),
-        COMMAND => command(to, host::messages::omnilink_command(bytes), bytes),
-        ZONES => zone(to, host::messages::omnilink_zone(bytes, i), bytes),
-        EVENTS => show(
-            to,
-            b" #2#1",
-            host::messages::omnilink_event(bytes, i),
-            bytes,
-        ),
-        _ => show(
-            to,
-            b" {1-|d}{2-|n}",
-            host::messages::omnilink_text_message(bytes, i),
-            bytes,
-        ),
+            answer,
+            |[low, high, ..]| print!(to; " {high:02X}{low:02X}"),
+        )?;
+    }
+    Ok(())
+}
+
+fn text_messages(to: &impl Print, bytes: &[u8], count: u8) -> io::Result<()> {
+    print!(to; " text messages")?;
+    for i in 0..usize::from(count) {
+        let answer = host::messages::omnilink_text_message(bytes, i);
+        show(to, answer, |[displayed, not_acknowledged, ..]| {
+            let displayed = if displayed == 0 { "-" } else { "d" };
+            let not_acknowledged = if not_acknowledged == 0 { "-" } else { "n" };
+            print!(to; " {displayed}{not_acknowledged}")
+        })?;
+    }
+    Ok(())
+}
+
+// A command by its number, with what it goes to.
+fn target(command: u8) -> &'static str {
+    match command {
+        0 => " off unit",
+        1 => " on unit",
+        2 => " all off area",
+        3 => " all on area",
+        9 => " lighting level unit",
+        10 => " decrement counter",
+        11 => " increment counter",
+        12 => " set counter",
+        _ => "",
     }
 }
 
-fn command(to: &impl Print, r: u64, bytes: &[u8]) -> io::Result<()> {
-    show(
-        to,
-        b"{1 off unit| on unit| all off area| all on area|||||| lighting level unit| decrement counter| increment counter| set counter} &4{1|||||||||, %3 percent|||, %3 as value}{2|, %3 seconds|, %3 minutes|, %3 hours}",
-        r,
-        bytes,
-    )
+fn command(to: &impl Print, bytes: &[u8]) -> io::Result<()> {
+    let answer = host::messages::omnilink_command(bytes);
+    show(to, answer, |[command, unit, count, low, high, ..]| {
+        print!(to; "{} {}", target(command), u16::from_le_bytes([low, high]))?;
+        match (command, unit) {
+            (9, _) => print!(to; ", {count} percent"),
+            (12, _) => print!(to; ", {count} as value"),
+            (_, 1) => print!(to; ", {count} seconds"),
+            (_, 2) => print!(to; ", {count} minutes"),
+            (_, 3) => print!(to; ", {count} hours"),
+            _ => Ok(()),
+        }
+    })
 }
 
-fn zone(to: &impl Print, r: u64, bytes: &[u8]) -> io::Result<()> {
-    show(
-        to,
-        b"; {1secure|not ready|trouble}, {2secure|tripped|reset}, {3disarmed|armed|bypassed by user|bypassed by system}~4, unacknowledged trouble}, loop %5",
-        r,
-        bytes,
-    )
+fn zones(to: &impl Print, bytes: &[u8], count: u8) -> io::Result<()> {
+    print!(to; " zones")?;
+    for i in 0..usize::from(count) {
+        let answer = host::messages::omnilink_zone(bytes, i);
+        show(
+            to,
+            answer,
+            |[condition, latched, arming, trouble, reading, ..]| {
+                let condition = name(&CONDITIONS, condition);
+                let latched = name(&LATCHED_ALARMS, latched);
+                let arming = name(&ARMINGS, arming);
+                print!(to; "; {condition}, {latched}, {arming}")?;
+                if trouble != 0 {
+                    print!(to; ", unacknowledged trouble")?;
+                }
+                print!(to; ", loop {reading}")
+            },
+        )?;
+    }
+    Ok(())
 }

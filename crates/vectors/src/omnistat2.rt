@@ -1,89 +1,57 @@
 // Omnistat2 messages, read at both ends.
-use crate::output::{field, show};
-use crate::reading::{byte, rest, wide};
+use crate::output::{Hex, show};
+use crate::reading::{byte, first, rest};
 use std::io;
 
 // The registers that hold text.
-const FIRST_TEXT: u64 = 172;
+pub(crate) const FIRST_TEXT: u8 = 172;
 
-const LAST_TEXT: u64 = 181;
+pub(crate) const LAST_TEXT: u8 = 181;
 
-const SET: u64 = 1;
-
-const DATA: u64 = 2;
-
+// The habit of groups as printed.
 const PRINTED: u8 = 1;
 
-// Whether an answer is a text: a set or data from a text register.
-fn is_text(answer: u64, kind: u64) -> bool {
-    if field(answer, 1) != kind {
-        return false;
-    }
-    if field(answer, 3) < FIRST_TEXT {
-        return false;
-    }
-    field(answer, 3) <= LAST_TEXT
-}
-
-// A text in its form, any other message in the other.
-fn show_message(
-    to: &impl Print,
-    kind: u64,
-    text: &[u8],
-    form: &[u8],
-    answer: u64,
-    bytes: &[u8],
-) -> io::Result<()> {
-    if is_text(answer, kind) {
-        show(to, text, answer, bytes)
-    } else {
-        show(to, form, answer, bytes)
-    }
+fn is_text(register: u8) -> bool {
+    (FIRST_TEXT..=LAST_TEXT).contains(&register)
 }
 
 pub(crate) fn at_thermostat(to: &impl Print, bytes: &[u8]) -> io::Result<()> {
-    show_message(
-        to,
-        SET,
-        b" text %3, half-byte %5, characters$4, to #2",
-        b"{1 poll registers from %3, count %4| set registers from %3, count %4, values$4| poll group 1| poll group 2| poll group 3}, to #2",
-        host::omnistat2::omnistat_read_at_thermostat(bytes),
-        bytes,
-    )
-}
-
-fn show_reply(to: &impl Print, form: &[u8], answer: u64, bytes: &[u8]) -> io::Result<()> {
-    show_message(
-        to,
-        DATA,
-        b" text %3, half-byte %5, characters$4, from %2",
-        form,
-        answer,
-        bytes,
-    )
-}
-
-// With the printed habit type 3 is the polled group, which is put to byte 6 of the answer, above the fields.
-fn reply(to: &impl Print, habit: u8, polled: u8, bytes: &[u8]) -> io::Result<()> {
-    let r = host::omnistat2::omnistat_read_at_host(habit, polled, bytes);
-    if habit == PRINTED {
-        show_reply(
-            to,
-            b"{1 acknowledge| negative| data registers from %3, count %4, values$4| group %6 as type %1, values!4}, from %2",
-            r | wide(polled) << 48,
-            bytes,
-        )
-    } else {
-        show_reply(
-            to,
-            b"{1 acknowledge| negative| data registers from %3, count %4, values$4| group 1, values!4| group 2, values!4| group 3, values!4}, from %2",
-            r,
-            bytes,
-        )
-    }
+    let answer = host::omnistat2::omnistat_read_at_thermostat(bytes);
+    show(to, answer, |[kind, address, start, count, half, ..]| {
+        let values = Hex(first(rest(bytes, 3), usize::from(count)));
+        match kind {
+            0 => print!(to; " poll registers from {start}, count {count}")?,
+            1 if is_text(start) => {
+                print!(to; " text {start}, half-byte {half}, characters{values}")?
+            }
+            1 => print!(to; " set registers from {start}, count {count}, values{values}")?,
+            2..=4 => print!(to; " poll group {}", kind - 1)?,
+            _ => {}
+        }
+        print!(to; ", to {address:02X}")
+    })
 }
 
 // A habit, the polled group, then the message.
 pub(crate) fn at_host(to: &impl Print, bytes: &[u8]) -> io::Result<()> {
-    reply(to, byte(bytes, 0), byte(bytes, 1), rest(bytes, 2))
+    let habit = byte(bytes, 0);
+    let polled = byte(bytes, 1);
+    let message = rest(bytes, 2);
+    let answer = host::omnistat2::omnistat_read_at_host(habit, polled, message);
+    show(to, answer, |[kind, number, start, count, half, ..]| {
+        let values = Hex(first(rest(message, 3), usize::from(count)));
+        let of_group = Hex(first(rest(message, 2), usize::from(count)));
+        match kind {
+            0 => print!(to; " acknowledge")?,
+            1 => print!(to; " negative")?,
+            2 if is_text(start) => {
+                print!(to; " text {start}, half-byte {half}, characters{values}")?
+            }
+            2 => print!(to; " data registers from {start}, count {count}, values{values}")?,
+            3 if habit == PRINTED => print!(to; " group {polled} as type 3, values{of_group}")?,
+            3..=5 if habit != PRINTED => { print!(to; " group {}, values{of_group}", kind - 2)? }
+            _ => {}
+        }
+        print!(to; ", from {number}")
+    })
 }

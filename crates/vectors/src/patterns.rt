@@ -1,82 +1,101 @@
 // X-10 patterns.
-use crate::output::{field, number, show, text};
-use crate::reading::{byte, first, wide};
+use crate::output::{self, show};
+use crate::reading::{byte, first};
 use std::io;
 
 // The places of an Extended 1.
 const ROOM: usize = 62;
 
-// The calls that write patterns, but for the last, as main.rt numbers them.
-const WRITE_UNIT: u64 = 10;
+// The kinds of patterns with a function, and with data and a command.
+const FUNCTION: u8 = 1;
 
-const WRITE_FUNCTION: u64 = 11;
+const EXTENDED: u8 = 2;
 
-// The kind of a pattern with a function.
-const FUNCTION: u64 = 1;
+// A function by its code, D8 D4 D2 D1.
+fn function(code: u8) -> &'static str {
+    match code {
+        0 => " all units off",
+        1 => " all lights on",
+        2 => " on",
+        3 => " off",
+        4 => " dim",
+        5 => " bright",
+        6 => " all lights off",
+        8 => " hail request",
+        9 => " hail acknowledge",
+        13 => " status on",
+        14 => " status off",
+        15 => " status request",
+        _ => "",
+    }
+}
 
-// A function is numbered by its code, D8 D4 D2 D1.
 pub(crate) fn read(to: &impl Print, places: &[u8]) -> io::Result<()> {
-    let r = host::patterns::x10_read(places);
-    if field(r, 1) == FUNCTION {
-        show(
-            to,
-            b" house @2{3 all units off| all lights on| on| off| dim| bright| all lights off|| hail request| hail acknowledge|||| status on| status off| status request}",
-            r,
-            places,
-        )
-    } else {
-        show(to, b" house @2 unit %3{1|| data #4 command #5}", r, places)
-    }
+    let answer = host::patterns::x10_read(places);
+    show(to, answer, |[kind, house, key, data, command, ..]| {
+        let letter = char::from(b'A' + house % 16);
+        print!(to; " house {letter}")?;
+        match kind {
+            FUNCTION => print!(to; "{}", function(key)),
+            EXTENDED => print!(to; " unit {key} data {data:02X} command {command:02X}"),
+            _ => print!(to; " unit {key}"),
+        }
+    })
 }
 
-// A place, with a blank where a part of the pattern ends before it: start, house, key, unit, data.
-fn place(to: &impl Print, b: u8, i: usize) -> io::Result<()> {
-    match i {
-        4 | 12 | 22 | 30 | 46 => text(to, b" ")?,
-        _ => {}
-    }
-    number(to, wide(b))
-}
-
+// Places, with a blank where a part of the pattern ends: start, house, key, unit, data.
 fn list(to: &impl Print, places: &[u8]) -> io::Result<()> {
-    let mut i = 0;
-    while i < places.len() {
-        place(to, places[i], i)?;
-        i += 1;
+    for (i, place) in places.iter().enumerate() {
+        if matches!(i, 4 | 12 | 22 | 30 | 46) {
+            print!(to; " ")?;
+        }
+        print!(to; "{place}")?;
     }
     Ok(())
 }
 
-// By the call: house and unit, house and function code, or house, unit, data and command.
-fn write_to(call: u64, house: u8, key: u8, data: u8, command: u8, out: &mut [u8]) -> u64 {
-    match call {
-        WRITE_UNIT => host::patterns::x10_write_unit(house, key, out),
-        WRITE_FUNCTION => host::patterns::x10_write_function(house, key, out),
-        _ => host::patterns::x10_write_extended(house, key, data, command, out),
-    }
-}
-
-// What a writer answered and wrote, and what is read from that.
-fn written(to: &impl Print, r: u64, out: &[u8]) -> io::Result<()> {
-    show(to, b" ", r, out)?;
-    let places = first(out, (r / 256) as usize);
-    if places.len() > 0 {
-        list(to, places)?;
-        text(to, b" reads")?;
-        read(to, places)?;
-    }
-    Ok(())
-}
-
-pub(crate) fn write(to: &impl Print, call: u64, b: &[u8]) -> io::Result<()> {
+// What a call wrote to its output, and what is read from that.
+fn written<F: FnOnce(&mut [u8]) -> u64>(to: &impl Print, write: F) -> io::Result<()>
+    requires { F.IsAlwaysCallable write }
+{
     let mut out = [0u8; ROOM];
-    let r = write_to(
-        call,
-        byte(b, 0),
-        byte(b, 1),
-        byte(b, 2),
-        byte(b, 3),
-        &mut out,
+    match output::value(write(&mut out)) {
+        Ok(count) => {
+            let places = first(&out, count as usize);
+            print!(to; " ")?;
+            list(to, places)?;
+            print!(to; " reads")?;
+            read(to, places)
+        }
+        Err(refused) => print!(to; "{refused}"),
+    }
+}
+
+// House and unit.
+pub(crate) fn write_unit(to: &impl Print, bytes: &[u8]) -> io::Result<()> {
+    let (house, unit) = (byte(bytes, 0), byte(bytes, 1));
+    written(to, |out| host::patterns::x10_write_unit(house, unit, out))
+}
+
+// House and function code.
+pub(crate) fn write_function(to: &impl Print, bytes: &[u8]) -> io::Result<()> {
+    let (house, code) = (byte(bytes, 0), byte(bytes, 1));
+    written(
+        to,
+        |out| host::patterns::x10_write_function(house, code, out),
+    )
+}
+
+// House, unit, data and command.
+pub(crate) fn write_extended(to: &impl Print, bytes: &[u8]) -> io::Result<()> {
+    let (house, unit, data, command) = (
+        byte(bytes, 0),
+        byte(bytes, 1),
+        byte(bytes, 2),
+        byte(bytes, 3),
     );
-    written(to, r, &out)
+    written(
+        to,
+        |out| host::patterns::x10_write_extended(house, unit, data, command, out),
+    )
 }

@@ -1,78 +1,92 @@
 // The calls that write Omni-Link frames and messages and Omnistat2 messages.
-use crate::output::show;
-use crate::reading::{byte, rest};
+use crate::output::{self, Hex};
+use crate::reading::{byte, first, rest};
+use host::omnistat2;
 use std::io;
 
 // More than a frame or a message has.
 const ROOM: usize = 80;
 
-// The calls, but for the last, as main.rt numbers them.
-const WRITE_FRAME: u64 = 13;
-
-const WRITE_MESSAGE: u64 = 14;
-
-const TO_THERMOSTAT: u64 = 15;
-
-const TO_HOST: u64 = 16;
-
-const GROUP_TO_HOST: u64 = 17;
-
-const TEXT_TO_THERMOSTAT: u64 = 18;
-
-// By the call: a habit, the polled group and a number, then a type and data bytes, or a group and values.
-fn write_reply(
-    call: u64,
-    habit: u8,
-    polled: u8,
-    number: u8,
-    kind: u8,
-    payload: &[u8],
-    out: &mut [u8],
-) -> u64 {
-    if call == TO_HOST {
-        return host::omnistat2::omnistat_write_to_host(habit, polled, number, kind, payload, out);
-    }
-    host::omnistat2::omnistat_write_group_to_host(habit, polled, number, kind, payload, out)
-}
-
-// By the call: an address or a number, a length half-byte, a text register and characters.
-fn write_text(call: u64, first: u8, half: u8, start: u8, characters: &[u8], out: &mut [u8]) -> u64 {
-    if call == TEXT_TO_THERMOSTAT {
-        return host::omnistat2::omnistat_write_text_to_thermostat(
-            first, half, start, characters, out,
-        );
-    }
-    host::omnistat2::omnistat_write_text_to_host(first, half, start, characters, out)
-}
-
-// By the call: a type and data bytes, behind one byte; an address, a type and data bytes, a reply, or a text, behind two.
-fn write_to(call: u64, first: u8, second: u8, one: &[u8], two: &[u8], out: &mut [u8]) -> u64 {
-    match call {
-        WRITE_FRAME => host::omnilink::omnilink_frame_write(first, one, out),
-        WRITE_MESSAGE => host::messages::omnilink_message_write(first, one, out),
-        TO_THERMOSTAT => host::omnistat2::omnistat_write_to_thermostat(first, second, two, out),
-        TO_HOST | GROUP_TO_HOST => write_reply(
-            call,
-            first,
-            second,
-            byte(two, 0),
-            byte(two, 1),
-            rest(two, 2),
-            out,
-        ),
-        _ => write_text(call, first, second, byte(two, 0), rest(two, 1), out),
-    }
-}
-
-pub(crate) fn write(to: &impl Print, call: u64, b: &[u8]) -> io::Result<()> {
+// What a call wrote to its output.
+fn written<F: FnOnce(&mut [u8]) -> u64>(to: &impl Print, write: F) -> io::Result<()>
+    requires { F.IsAlwaysCallable write }
+{
     let mut out = [0u8; ROOM];
-    let r = write_to(
-        call,
-        byte(b, 0),
-        byte(b, 1),
-        rest(b, 1),
-        rest(b, 2),
-        &mut out,
+    match output::value(write(&mut out)) {
+        Ok(count) => print!(to; "{}", Hex(first(&out, count as usize))),
+        Err(refused) => print!(to; "{refused}"),
+    }
+}
+
+// A type, then data bytes.
+pub(crate) fn write_frame(to: &impl Print, bytes: &[u8]) -> io::Result<()> {
+    let (kind, data) = (byte(bytes, 0), rest(bytes, 1));
+    written(
+        to,
+        |out| host::omnilink::omnilink_frame_write(kind, data, out),
+    )
+}
+
+// A type, then data bytes.
+pub(crate) fn write_message(to: &impl Print, bytes: &[u8]) -> io::Result<()> {
+    let (kind, data) = (byte(bytes, 0), rest(bytes, 1));
+    written(
+        to,
+        |out| host::messages::omnilink_message_write(kind, data, out),
+    )
+}
+
+// An address and a type, then data bytes.
+pub(crate) fn to_thermostat(to: &impl Print, bytes: &[u8]) -> io::Result<()> {
+    let (address, kind, data) = (byte(bytes, 0), byte(bytes, 1), rest(bytes, 2));
+    written(
+        to,
+        |out| omnistat2::omnistat_write_to_thermostat(address, kind, data, out),
+    )
+}
+
+// A habit, the polled group, a number and a type, then data bytes.
+pub(crate) fn to_host(to: &impl Print, bytes: &[u8]) -> io::Result<()> {
+    let (habit, polled) = (byte(bytes, 0), byte(bytes, 1));
+    let (number, kind, data) = (byte(bytes, 2), byte(bytes, 3), rest(bytes, 4));
+    written(
+        to,
+        |out| omnistat2::omnistat_write_to_host(habit, polled, number, kind, data, out),
+    )
+}
+
+// A habit, the polled group, a number and a group, then values.
+pub(crate) fn group_to_host(to: &impl Print, bytes: &[u8]) -> io::Result<()> {
+    let (habit, polled) = (byte(bytes, 0), byte(bytes, 1));
+    let (number, group, values) = (byte(bytes, 2), byte(bytes, 3), rest(bytes, 4));
+    written(to, |out| {
+        omnistat2::omnistat_write_group_to_host(habit, polled, number, group, values, out)
+    })
+}
+
+// An address, a length half-byte and a text register, then characters.
+pub(crate) fn text_to_thermostat(to: &impl Print, bytes: &[u8]) -> io::Result<()> {
+    let (address, half, register, text) = (
+        byte(bytes, 0),
+        byte(bytes, 1),
+        byte(bytes, 2),
+        rest(bytes, 3),
     );
-    show(to, b"+1", r, &out)
+    written(to, |out| {
+        omnistat2::omnistat_write_text_to_thermostat(address, half, register, text, out)
+    })
+}
+
+// A number, a length half-byte and a text register, then characters.
+pub(crate) fn text_to_host(to: &impl Print, bytes: &[u8]) -> io::Result<()> {
+    let (number, half, register, text) = (
+        byte(bytes, 0),
+        byte(bytes, 1),
+        byte(bytes, 2),
+        rest(bytes, 3),
+    );
+    written(
+        to,
+        |out| omnistat2::omnistat_write_text_to_host(number, half, register, text, out),
+    )
 }

@@ -1,18 +1,16 @@
--- What the code's answers say in the paper's terms, and how an accepted pattern is packed for C.
+-- What the code's patterns say in the paper's terms, and how an accepted pattern is packed for C.
 use Rattle.std.specs.Prelude.{List, [], ◌∷◌}
-use Rattle.answer.specs.Answer.{Outcome, refused, accepted, number_of}
 use Rattle.answer.specs.Packed.{Field, byte}
 use Rattle.x10.specs.declared.Pattern.{Pattern}
-use Rattle.x10.specs.declared.Pattern.TheVariants.{Refused, Unit as Unit', Function as Function', Extended}
+use Rattle.x10.specs.declared.Pattern.TheVariants.{Unit as Unit', Function as Function', Extended}
 use Rattle.x10.specs.Codes.{function_code}
 use Rattle.x10.specs.Pattern.{Message, unit, function, extended}
 
--- what a reader's answer says
-abbrev pub outcome_of : Pattern → Outcome Message
-outcome_of (Refused r) = refused (number_of r)
-outcome_of (Unit' house u) = accepted (unit house u)
-outcome_of (Function' house f) = accepted (function house f)
-outcome_of (Extended house u data' command) = accepted (extended house u data' command)
+-- what a pattern of the code says
+abbrev pub message : Pattern → Message
+message (Unit' house u) = unit house u
+message (Function' house f) = function house f
+message (Extended house u data' command) = extended house u data' command
 
 -- for C: kind 0, 1 or 2, house, unit or function code, data, command
 abbrev pub fields : Message → List Field

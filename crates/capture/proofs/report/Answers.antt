@@ -3,24 +3,24 @@ use lib.ListN.{length, drop, length-append, length-drop}
 use mathlib.Core.List.{List, ◌++◌}
 use mathlib.Core.Path.{◌≡◌, sym, ap, ◌∙◌}
 use native.Mathlib.Omega.{arith}
-use Rattle.answer.specs.Answer.{Outcome, refused, accepted, on_accepted, in_room, out_after, written_of}
+use Rattle.answer.specs.Answer.{Outcome, refused, accepted, on_accepted, in_room, out_after, outcome_of}
 use Rattle.capture.proofs.Laws.{counted, left_there, is_refused, refusal}
 use Rattle.capture.specs.Printed.{printed}
 use Rattle.listing.proofs.Laws.Answers.{any_capture}
 use Rattle.listing.specs.Text.{listing}
 use Rattle.capture.proofs.report.Goals as goal
 
-pub returns-in-Count : goal.returns-in-Count
-returns-in-Count c =
+pub returns-in-Ok : goal.returns-in-Ok
+returns-in-Ok c =
     let a = c.args in
     let s = c.args.bytes.now in
     let old = c.args.out.now in
     let call = c.write in
-    let n = c.in-Count.n in
+    let n = c.in-Ok.n in
     let known = c.type_inv.bytes in
     let same : in_room (length old) (listing s) ≡ listing s = any_capture s (length old) (λ i. omega (arith, known i)) c.requires in
     let e : accepted n ≡ on_accepted length (listing s) =
-    ap written_of (sym c.in-Count.is) ∙ call.ensures.result_value ∙ ap (on_accepted length) same in
+    ap outcome_of (sym c.in-Ok.is) ∙ call.ensures.result_value ∙ ap (on_accepted length) same in
     let size : n ≡ length (printed (listing s)) = counted (listing s) n e in
     let there : call.new.out ≡ printed (listing s) ++ drop (length (printed (listing s))) old =
     call.ensures.out_after ∙ ap (λ (o : Outcome (List ℕ)). out_after o old) same ∙ left_there (listing s) n old e in
@@ -37,8 +37,8 @@ returns-in-Count c =
       upper_bound = most;
     }
 
-pub returns-in-Refused : goal.returns-in-Refused
-returns-in-Refused c =
+pub returns-in-Err : goal.returns-in-Err
+returns-in-Err c =
     let a = c.args in
     let s = c.args.bytes.now in
     let old = c.args.out.now in
@@ -46,7 +46,7 @@ returns-in-Refused c =
     let put = c.put_refusal in
     let known = c.type_inv.bytes in
     let same : in_room (length old) (listing s) ≡ listing s = any_capture s (length old) (λ i. omega (arith, known i)) c.requires in
-    let e = ap written_of (sym c.in-Refused.is) ∙ call.ensures.result_value ∙ ap (on_accepted length) same in
+    let e = ap outcome_of (sym c.in-Err.is) ∙ call.ensures.result_value ∙ ap (on_accepted length) same in
     let r : listing s ≡ refused 3 = is_refused s _ e in
     let kept : call.new.out ≡ old = call.ensures.out_after ∙ ap (λ (o : Outcome (List ℕ)). out_after o old) (same ∙ r) in
     let there : put.new.out ≡ printed (refused 3) ++ drop (length (printed (refused 3))) old =

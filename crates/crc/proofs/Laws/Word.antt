@@ -7,8 +7,9 @@ use native.Mathlib.Numerals.{add-one}
 use native.Mathlib.Omega.{arith}
 use lib.Bits.{bit_xor, xor_comm, xor_zero_r, xor_shifted}
 use lib.ListN.{length, get_or, take}
-use lib.Seq.{take-suc}
+use lib.Seq.{take-suc, get_or-take, length-take-le}
 use lib.Pow.{pow-add, pow_pos}
+use Rattle.std.specs.Int.{w32, w64, from_le_bytes}
 use Rattle.crc.specs.Bits.{bits_of, bit_string}
 use Rattle.crc.specs.Crc.{feed, crc}
 use Rattle.crc.specs.Parts.{word, turns, even_part, odd_part}
@@ -84,22 +85,10 @@ crc_two a b l h =
     bytes (suc zero) = h
     bytes (suc (suc j)) = omega arith
 
-pub two_bytes : (s : List ℕ) → length s ≡ 2 → s ≡ get_or s 0 0 ∷ get_or s 1 0 ∷ []
-two_bytes [] e = let z : ⊥ = omega arith in absurd z
-two_bytes (a ∷ []) e = let z : ⊥ = omega arith in absurd z
-two_bytes (a ∷ (b ∷ [])) e = refl
-two_bytes (a ∷ (b ∷ (c ∷ s))) e = let z : ⊥ = omega arith in absurd z
-
--- words of one byte and of two, and words side by side
+-- words of one byte, and words side by side
 pub word_one : (s : List ℕ) (i : ℕ) → word 1 s i ≡ get_or s i 0
 unfolding word
 word_one s i = omega arith
-
-pub word_two : (s : List ℕ) (i : ℕ) → get_or s i 0 + get_or s (i + 1) 0 * 256 ≡ word 2 s i
-unfolding word
-word_two s i =
-    let e : get_or s (i + 1) 0 ≡ get_or s (suc i) 0 = ap (λ (n : ℕ). get_or s n 0) (add-one i) in
-    omega arith
 
 pub word-add : (s : List ℕ) (j k i : ℕ) → word (j + k) s i ≡ word j s i + 2 ^ (8 * j) * word k s (i + j)
 unfolding word
@@ -133,3 +122,56 @@ head_more s m j h =
     ∙ sym (add-mul (word j s 0) (2 ^ (8 * j) * word m s j) (2 ^ rest))
     ∙ ap (λ (n : ℕ). n * 2 ^ rest)
     (ap (λ (i : ℕ). word j s 0 + 2 ^ (8 * j) * word m s i) (sym (zero-add j)) ∙ sym (word-add s j m 0))
+
+-- a word of the same bytes
+word_same : (k : ℕ) (s t : List ℕ) (i j : ℕ) → ((m : ℕ) → m < k → get_or s (i + m) 0 ≡ get_or t (j + m) 0) → word k s i ≡ word k t j
+unfolding word
+word_same zero s t i j e = refl
+word_same (suc k) s t i j e =
+    let here : get_or s i 0 ≡ get_or t j 0 =
+    ap (λ (n : ℕ). get_or s n 0) (sym (add-zero i)) ∙ e 0 (omega arith) ∙ ap (λ (n : ℕ). get_or t n 0) (add-zero j) in
+    ap₂ (λ (x y : ℕ). x + 256 * y) here
+    (word_same k s t (suc i) (suc j)
+    (λ m h.
+    ap (λ (n : ℕ). get_or s n 0) (suc-add i m ∙ sym (add-suc i m))
+    ∙ e (suc m) (omega arith)
+    ∙ ap (λ (n : ℕ). get_or t n 0) (add-suc j m ∙ sym (suc-add j m))))
+
+-- four bytes and eight, read as a word
+module _ (s : List ℕ) (j : ℕ) where
+  at : (m n : ℕ) → m ≡ n → get_or s m 0 ≡ get_or s n 0
+  at m n e = ap (λ (k : ℕ). get_or s k 0) e
+
+  pub four_read : from_le_bytes w32 (get_or s j 0 ∷ get_or s (j + 1) 0 ∷ get_or s (j + 2) 0 ∷ get_or s (j + 3) 0 ∷ []) ≡ word 4 s j
+  unfolding word
+  four_read =
+      omega (arith, at (j + 1) (suc j) (omega arith), at (j + 2) (suc (suc j)) (omega arith), at (j + 3) (suc (suc (suc j))) (omega arith))
+
+  pub eight_read : from_le_bytes w64
+      (get_or s j 0 ∷ get_or s (j + 1) 0 ∷ get_or s (j + 2) 0 ∷ get_or s (j + 3) 0 ∷ get_or s (j + 4) 0 ∷ get_or s (j + 5) 0 ∷ get_or s (j + 6) 0
+      ∷ get_or s (j + 7) 0 ∷ [])
+      ≡ word 8 s j
+  unfolding word
+  eight_read =
+      omega (
+        arith,
+        at (j + 1) (suc j) (omega arith),
+        at (j + 2) (suc (suc j)) (omega arith),
+        at (j + 3) (suc (suc (suc j))) (omega arith),
+        at (j + 4) (suc (suc (suc (suc j)))) (omega arith),
+        at (j + 5) (suc (suc (suc (suc (suc j))))) (omega arith),
+        at (j + 6) (suc (suc (suc (suc (suc (suc j)))))) (omega arith),
+        at (j + 7) (suc (suc (suc (suc (suc (suc (suc j))))))) (omega arith),
+      )
+
+-- the first bytes of a string as the highest of a word
+pub first_bytes : (s : List ℕ) (k : ℕ) → k ≤ length s
+    → word (length (take k s)) (take k s) 0 * 2 ^ (64 - 8 * length (take k s)) ≡ word k s 0 * 2 ^ (64 - 8 * k)
+first_bytes s k h =
+    ap (λ (n : ℕ). word n (take k s) 0 * 2 ^ (64 - 8 * n)) (length-take-le k s h)
+    ∙ ap (λ (w : ℕ). w * 2 ^ (64 - 8 * k))
+    (word_same k (take k s) s 0 0
+    (λ m l.
+    ap (λ (n : ℕ). get_or (take k s) n 0) (zero-add m)
+    ∙ get_or-take k s m 0 l
+    ∙ ap (λ (n : ℕ). get_or s n 0) (sym (zero-add m))))

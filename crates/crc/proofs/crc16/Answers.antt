@@ -1,6 +1,5 @@
 use Prim.Native.Nat.{ℕ}
 use lib.Bits.{bit_xor}
-use lib.ListN.{length}
 use lib.Seq.{take_all}
 use mathlib.Core.Path.{sym, ap, ◌∙◌}
 use native.Mathlib.Omega.{arith}
@@ -9,17 +8,6 @@ use Rattle.crc.proofs.Laws.Word.{crc-word}
 use Rattle.crc.specs.Crc.{crc}
 use Rattle.crc.specs.Parts.{even_part, odd_part}
 use Rattle.crc.proofs.crc16.Goals as goal
-
-pub bounds-b-1 : goal.bounds-b-1
-bounds-b-1 c =
-    omega (arith, ap length (c.is_01_and_byte.ensures c.if-is_01_and_byte.true))
-
-pub returns-then-is_01_and_byte : goal.returns-then-is_01_and_byte
-returns-then-is_01_and_byte c =
-    c.of_01_and.ensures ∙ ap crc (sym (c.is_01_and_byte.ensures c.if-is_01_and_byte.true))
-
-pub head-s-requires : goal.head-s-requires
-head-s-requires c = (omega arith, omega arith)
 
 pub loop-i-init : goal.loop-i-init
 loop-i-init c = (omega arith, omega arith, sym c.head-s.ensures ∙ sym (whole c.head-s.result))

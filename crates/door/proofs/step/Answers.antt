@@ -3,8 +3,8 @@ use borrow.Author.Tests.{not-false}
 use lib.ListN.{length}
 use mathlib.Core.Bool.{true}
 use mathlib.Core.Path.{◌≡◌, sym, ap, ◌∙◌}
-use Rattle.answer.specs.Answer.{refused, accepted, on_accepted, written_of}
-use Rattle.answer.specs.declared.Written.{Written}
+use Rattle.answer.specs.Answer.{refused, accepted, on_accepted}
+use Rattle.std.proofs.lemmas.Result.{err_from_is_err_and}
 use Rattle.message.proofs.Laws.Sized.{login_length}
 use Rattle.message.specs.Message.{write_message}
 use Rattle.door.specs.State.{is_secret, is_state, state_of}
@@ -36,12 +36,9 @@ state_of-requires c =
 pub judge-judged-requires : goal.judge-judged-requires
 judge-judged-requires c =
     let is_one : is_secret c.args.secret.now ≡ true = sym c.is_secret.ensures ∙ not-false _ c.if-not-is_secret.false-raw in
-    let known : (w : Written) → c.size.result ≡ w
-    → written_of w ≡ on_accepted length (write_message c.args.kind c.args.«data».now) = λ w e. sym (ap written_of e) ∙ c.size.ensures in
-    let sized : accepted c.in-Count.field-0 ≡ on_accepted length (write_message c.args.kind c.args.«data».now) = known _ c.in-Count.is in
     let a = c.args in record {
       secret_len = (secret_digits a.secret.now is_one).0;
-      data_len = λ is. login_length a.«data».now _ (sized ∙ ap (λ (k : ℕ). on_accepted length (write_message k a.«data».now)) is);
+      data_len = λ is. login_length a.«data».now _ (c.in_ok-_size.ensures ∙ ap (λ (k : ℕ). on_accepted length (write_message k a.«data».now)) is);
     }
 
 pub put-requires : goal.put-requires
@@ -49,24 +46,20 @@ put-requires c =
     let taken : is_state c.args.state.now ≡ true = sym c.is_state.ensures ∙ not-false _ c.if-not-is_state.false-raw in
     state_length c.args.state.now taken
 
-pub returns-in-Refused : goal.returns-in-Refused
-returns-in-Refused c =
+pub returns-in_err-_size : goal.returns-in_err-_size
+returns-in_err-_size c =
     let is_one : is_secret c.args.secret.now ≡ true = sym c.is_secret.ensures ∙ not-false _ c.if-not-is_secret.false-raw in
     let taken : is_state c.args.state.now ≡ true = sym c.is_state.ensures ∙ not-false _ c.if-not-is_state.false-raw in
-    let known : (w : Written) → c.size.result ≡ w
-    → written_of w ≡ on_accepted length (write_message c.args.kind c.args.«data».now) = λ w e. sym (ap written_of e) ∙ c.size.ensures in
     let a = c.args in
     let w = leaves a.secret.now a.state.now a.seconds a.kind a.«data».now (refused _)
-    (no_message a.secret.now a.state.now a.seconds a.kind a.«data».now is_one taken _ (known _ c.in-Refused.is)) in
-    record { result_value = w.0; state_after = w.1 }
+    (no_message a.secret.now a.state.now a.seconds a.kind a.«data».now is_one taken _ c.in_err-_size.ensures) in
+    let p = err_from_is_err_and c.from_residual.result c.from_residual.ensures.1 in
+    record { result_value = rw (p.1, p.2) w.0; state_after = w.1 }
 
-pub returns-in-Count : goal.returns-in-Count
-returns-in-Count c =
+pub returns : goal.returns
+returns c =
     let is_one : is_secret c.args.secret.now ≡ true = sym c.is_secret.ensures ∙ not-false _ c.if-not-is_secret.false-raw in
     let taken : is_state c.args.state.now ≡ true = sym c.is_state.ensures ∙ not-false _ c.if-not-is_state.false-raw in
-    let known : (w : Written) → c.size.result ≡ w
-    → written_of w ≡ on_accepted length (write_message c.args.kind c.args.«data».now) = λ w e. sym (ap written_of e) ∙ c.size.ensures in
-    let sized : accepted c.in-Count.field-0 ≡ on_accepted length (write_message c.args.kind c.args.«data».now) = known _ c.in-Count.is in
     let a = c.args in
     let secret = c.args.secret.now in
     let lent = c.args.state.now in
@@ -74,7 +67,7 @@ returns-in-Count c =
     let same : c.judge-judged.result ≡ judge secret a.kind d (elapsed a.seconds (state_of lent)) =
     c.judge-judged.ensures ∙ ap (judge secret a.kind d) (c.elapsed-before.ensures ∙ ap (elapsed a.seconds) c.state_of.ensures) in
     let l = leaves secret lent a.seconds a.kind d (accepted c.judge-judged.result)
-    (by_message secret lent a.seconds a.kind d is_one taken _ sized ∙ ap accepted (sym same)) in record {
+    (by_message secret lent a.seconds a.kind d is_one taken _ c.in_ok-_size.ensures ∙ ap accepted (sym same)) in record {
       result_value = l.0;
       state_after = c.put.ensures ∙ l.1;
     }

@@ -9,6 +9,7 @@ use lib.ListN.{length, get_or}
 use borrow.Author.Tests.{lt-ltb, le-ltb, ltb-true, ltb-false}
 use Rattle.answer.specs.Answer.{refused, accepted, refuse_if, in_room}
 use Rattle.answer.proofs.Laws.Output.{no_room, with_room}
+use Rattle.listing.specs.declared.place.FrameAt.{FrameAt}
 use Rattle.listing.specs.Lines.{lines}
 use Rattle.listing.specs.Text.{text, listing}
 use Rattle.listing.specs.Parts.{rest, found_text, Told}
@@ -31,7 +32,7 @@ module _ (s : List ℕ) (room : ℕ) where
     fits h = ap (in_room room) listed ∙ with_room room (rest s 0) h
 
 -- the same by the frames found
-module _ (s es : List ℕ) (small : length s ≤ 4096) (t : Told s 0 es) where
+module _ (s : List ℕ) (es : List FrameAt) (small : length s ≤ 4096) (t : Told s 0 es) where
   pub found_size : ((i : ℕ) → get_or s i 0 < 10000) → length (found_text 0 es (length s)) ≤ 8 * length s + 25
   found_size bytes = rw t.same at (enough_room s bytes small)
 

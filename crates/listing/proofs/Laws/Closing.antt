@@ -1,5 +1,5 @@
 -- What a call comes to where its lines fit the lent output, and where not. Assumes nothing.
-use mathlib.Core.Path.{◌≡◌, refl, sym, ap, ap₂, subst⁻¹, ◌∙◌}
+use mathlib.Core.Path.{◌≡◌, refl, sym, ap, subst⁻¹, ◌∙◌}
 use mathlib.Core.Bool.{Bool, true, false}
 use mathlib.Core.List.{List}
 use Prim.Native.Nat.{ℕ, ◌+◌, ◌-◌, ◌<◌, ◌≤◌}
@@ -9,6 +9,7 @@ use lib.Dec.{ltb}
 use borrow.Author.Tests.{ltb-true, ltb-false}
 use Rattle.answer.specs.Answer.{Outcome, refused, accepted, on_accepted, out_after}
 use Rattle.answer.proofs.Laws.Output.{no_room, with_room}
+use Rattle.listing.specs.declared.place.FrameAt.{FrameAt}
 use Rattle.listing.specs.Lines.{lines_from}
 use Rattle.listing.specs.Text.{text}
 use Rattle.listing.specs.State.{State, as_state, state_bytes, state_of, is_state}
@@ -56,12 +57,12 @@ call-accepted {o} {c} {n} {out} state e put kept = (
 )
 
 -- the state that a call leaves, with the end of the last frame as the code has it
-pub closed_state : (from came : ℕ) (es unread : List ℕ) (last : ℕ) → last ≡ last_end from es
+pub closed_state : (from came : ℕ) (es : List FrameAt) (unread : List ℕ) (last : ℕ) → last ≡ last_end from es
     → state_bytes (as_state came (came - length unread - last) unread) ≡ (closed from came es unread).state
 closed_state from came es unread last e = ap (λ (n : ℕ). state_bytes (as_state came (came - length unread - n) unread)) e
 
 -- the frames before the unread bytes lie inside any capture
-pub closed-within : (from came : ℕ) (es unread : List ℕ) → came ≤ 4096 → Within from es (came - length unread) → Within from es 4096
+pub closed-within : (from came : ℕ) (es : List FrameAt) (unread : List ℕ) → came ≤ 4096 → Within from es (came - length unread) → Within from es 4096
 closed-within from came es unread h w = within_more from es (came - length unread) 4096 (omega (arith, h)) w
 
 -- ---- the finishing call
@@ -76,21 +77,15 @@ module _ (room : ℕ) (b : List ℕ) where
   finish-checked h = simp h
 
 -- with the numbers and the unread bytes of the state, as the code has them
-module _ (b : List ℕ) {came run : ℕ} {u : List ℕ} (known : is_state b ≡ true) (came-is : came ≡ (state_of b).came) (run_is : run ≡ (state_of b).run)
-    (unread-is : u ≡ (state_of b).unread) where
-  pub the_state : as_state came run u ≡ state_of b
-  the_state =
-      ap₂ (λ (x y : ℕ). as_state x y u) came-is run_is
-      ∙ ap (as_state (state_of b).came (state_of b).run) unread-is
-
+module _ (b : List ℕ) {came run : ℕ} {u : List ℕ} (known : is_state b ≡ true) (is : as_state came run u ≡ state_of b) where
   pub known_possible : Possible (as_state came run u)
-  known_possible = subst⁻¹ (λ (st : State). Possible st) the_state (possible_facts (state_of b) (state_possible b known))
+  known_possible = subst⁻¹ (λ (st : State). Possible st) is (possible_facts (state_of b) (state_possible b known))
 
   abbrev base : ℕ
   base = came - length u
 
   -- and with the frames found among those
-  module _ {es : List ℕ} (g : (from : ℕ) → from ≤ base → Ends u base from es (length u)) where
+  module _ {es : List FrameAt} (g : (from : ℕ) → from ≤ base → Ends u base from es (length u)) where
     ended : Ends u base (base - run) es (length u)
     ended = g (base - run) (omega arith)
 
@@ -104,7 +99,7 @@ module _ (b : List ℕ) {came run : ℕ} {u : List ℕ} (known : is_state b ≡ 
     finish_text =
         let back : run ≡ base - (base - run) = omega (arith, known_possible.late) in
         let all : base + length u ≡ came = omega (arith, known_possible.late) in
-        ap (λ (st : State). (finished st).text) (sym the_state)
+        ap (λ (st : State). (finished st).text) (sym is)
         ∙ ap (λ (n : ℕ). text (lines_from base n 0 u)) back
         ∙ ends_text ended
         ∙ ap (found_text (base - run) es) all

@@ -1,78 +1,77 @@
 -- The text of frames from an offset on: joined, measured, and put frame by frame. Assumes nothing.
-use mathlib.Core.Path.{◌≡◌, refl, sym, ap, ap₂, subst, ◌∙◌}
+use mathlib.Core.Path.{◌≡◌, refl, sym, ap, subst, ◌∙◌}
 use mathlib.Core.List.{List, [], ◌∷◌, ◌++◌, append_assoc, append-nil}
 use Prim.Native.Nat.{ℕ, suc, ◌+◌, ◌-◌, ◌*◌, ◌<◌, ◌≤◌}
 use native.Mathlib.Numerals.{add-one}
 use native.Mathlib.Omega.{arith}
 use lib.ListN.{length, get_or, drop, length-append, drop_of_length-le}
 use lib.Seq.{drop-cons}
-use Rattle.listing.specs.Lines.{frame, end}
+use Rattle.listing.specs.declared.place.FrameAt.{FrameAt}
+use Rattle.listing.specs.Lines.{end}
 use Rattle.listing.specs.Text.{line_text}
-use Rattle.listing.specs.Parts.{offset_in, count_in, kind_in, behind, run_text, pair_text, frames_text, last_end, found_text, Within, Put}
+use Rattle.listing.specs.Parts.{behind, line_of, run_text, pair_text, frames_text, last_end, found_text, Within, Put}
 use Rattle.listing.proofs.Laws.Numbers.{at_most_four, end-length}
 use Rattle.listing.proofs.Laws.Output.{joined, nothing, next_fits, same_bytes}
 use Rattle.listing.proofs.Laws.Sizes.{run_bound, frame_line}
 
 -- the frames lie inside the capture
-pub within_start : (from : ℕ) (es : List ℕ) (len : ℕ) → Within from es len → from ≤ len
+pub within_start : (from : ℕ) (es : List FrameAt) (len : ℕ) → Within from es len → from ≤ len
 within_start from [] len w = w
-within_start from (e ∷ es) len w = omega (arith, w.0, within_start (behind e) es len w.1)
+within_start from (e ∷ es) len w = omega (arith, w.0.0, within_start (behind e) es len w.1)
 
 -- and inside a longer one
-pub within_more : (from : ℕ) (es : List ℕ) (n m : ℕ) → n ≤ m → Within from es n → Within from es m
+pub within_more : (from : ℕ) (es : List FrameAt) (n m : ℕ) → n ≤ m → Within from es n → Within from es m
 within_more from [] n m h w = omega (arith, w)
 within_more from (e ∷ es) n m h w = (w.0, within_more (behind e) es n m h w.1)
 
-pub last_within : (from : ℕ) (es : List ℕ) (len : ℕ) → Within from es len → last_end from es ≤ len
+pub last_within : (from : ℕ) (es : List FrameAt) (len : ℕ) → Within from es len → last_end from es ≤ len
 unfolding last_end
 last_within from [] len w = w
 last_within from (e ∷ es) len w = last_within (behind e) es len w.1
 
 -- frames, and others behind them
-pub frames_joined : (from : ℕ) (es fs : List ℕ) → frames_text from (es ++ fs) ≡ frames_text from es ++ frames_text (last_end from es) fs
+pub frames_joined : (from : ℕ) (es fs : List FrameAt) → frames_text from (es ++ fs) ≡ frames_text from es ++ frames_text (last_end from es) fs
 unfolding frames_text last_end
 frames_joined from [] fs = refl
 frames_joined from (e ∷ es) fs =
     ap (λ (x : List ℕ). pair_text from e ++ x) (frames_joined (behind e) es fs)
     ∙ sym (append_assoc (pair_text from e) (frames_text (behind e) es) (frames_text (last_end (behind e) es) fs))
 
-pub last_joined : (from : ℕ) (es fs : List ℕ) → last_end from (es ++ fs) ≡ last_end (last_end from es) fs
+pub last_joined : (from : ℕ) (es fs : List FrameAt) → last_end from (es ++ fs) ≡ last_end (last_end from es) fs
 unfolding last_end
 last_joined from [] fs = refl
 last_joined from (e ∷ es) fs = last_joined (behind e) es fs
 
-pub within-joined : (from : ℕ) (es fs : List ℕ) (n len : ℕ) → Within from es n → Within (last_end from es) fs len → Within from (es ++ fs) len
+pub within-joined : (from : ℕ) (es fs : List FrameAt) (n len : ℕ) → Within from es n → Within (last_end from es) fs len → Within from (es ++ fs) len
 unfolding last_end
 within-joined from [] fs n len w v = v
 within-joined from (e ∷ es) fs n len w v = (w.0, within-joined (behind e) es fs n len w.1 v)
 
 -- the end of the last frame
-pub last_none : (from : ℕ) (es : List ℕ) → length es ≡ 0 → last_end from es ≡ from
+pub last_none : (from : ℕ) (es : List FrameAt) → length es ≡ 0 → last_end from es ≡ from
 unfolding last_end
 last_none from [] h = refl
 last_none from (e ∷ es) h = let z : ⊥ = omega (arith, h) in absurd z
 
-pub last_some : (from : ℕ) (es : List ℕ) → 0 < length es → last_end from es ≡ behind (get_or es (length es - 1) 0)
+pub last_some : (from : ℕ) (es : List FrameAt) (d : FrameAt) → 0 < length es → last_end from es ≡ behind (get_or es (length es - 1) d)
 unfolding last_end
-last_some from [] h = let z : ⊥ = omega (arith, h) in absurd z
-last_some from (e ∷ []) h = refl
-last_some from (e ∷ d ∷ es) h =
-    let same : suc (length (d ∷ es) - 1) ≡ length (e ∷ d ∷ es) - 1 = omega arith in
-    last_some (behind e) (d ∷ es) (omega arith) ∙ ap (λ (n : ℕ). behind (get_or (e ∷ d ∷ es) n 0)) same
+last_some from [] d h = let z : ⊥ = omega (arith, h) in absurd z
+last_some from (e ∷ []) d h = refl
+last_some from (e ∷ f ∷ es) d h =
+    let same : suc (length (f ∷ es) - 1) ≡ length (e ∷ f ∷ es) - 1 = omega arith in
+    last_some (behind e) (f ∷ es) d (omega arith) ∙ ap (λ (n : ℕ). behind (get_or (e ∷ f ∷ es) n d)) same
 
--- one frame's text, from the parts that the code takes out of its number
-module _ (from e at count kind : ℕ) (here : at ≡ offset_in e) (counts : count ≡ count_in e) (types : kind ≡ kind_in e) where
-  pub pair_of : run_text from (at - from) ++ line_text (frame at count kind) ≡ pair_text from e
+-- one frame's text, from where the code has its offset
+module _ (from : ℕ) (e : FrameAt) (at : ℕ) (here : at ≡ e.offset) where
+  pub pair_of : run_text from (at - from) ++ line_text (line_of e) ≡ pair_text from e
   unfolding pair_text
-  pair_of =
-      ap₂ (λ (n k : ℕ). run_text from (n - from) ++ line_text (frame n k kind)) here counts
-      ∙ ap (λ (k : ℕ). run_text from (offset_in e - from) ++ line_text (frame (offset_in e) (count_in e) k)) types
+  pair_of = ap (λ (n : ℕ). run_text from (n - from) ++ line_text (line_of e)) here
 
-  pub pair_size : length (run_text from (at - from)) + length (line_text (frame at count kind)) ≡ length (pair_text from e)
-  pair_size = sym (length-append (run_text from (at - from)) (line_text (frame at count kind))) ∙ ap length pair_of
+  pub pair_size : length (run_text from (at - from)) + length (line_text (line_of e)) ≡ length (pair_text from e)
+  pair_size = sym (length-append (run_text from (at - from)) (line_text (line_of e))) ∙ ap length pair_of
 
 -- at most 16 bytes for the noise before a frame, and 21 for the frame
-pub frames_bound : (from : ℕ) (es : List ℕ) → Within from es 4096 → length (frames_text from es) ≤ 37 * length es
+pub frames_bound : (from : ℕ) (es : List FrameAt) → Within from es 4096 → length (frames_text from es) ≤ 37 * length es
 unfolding frames_text
 frames_bound from [] w = omega arith
 frames_bound from (e ∷ es) w =
@@ -80,19 +79,19 @@ frames_bound from (e ∷ es) w =
     omega (
       arith,
       length-append (pair_text from e) (frames_text (behind e) es),
-      pair_size from e (offset_in e) (count_in e) (kind_in e) refl refl refl,
-      run_bound from (offset_in e - from) (omega (arith, w.0)) (omega arith),
-      frame_line (offset_in e) (count_in e) (kind_in e) (omega arith) (omega arith) (omega arith),
+      pair_size from e e.offset refl,
+      run_bound from (e.offset - from) (omega (arith, w.0.0)) (omega arith),
+      frame_line e.offset e.count e.kind (omega arith) (omega arith) (omega (arith, w.0.1)),
       frames_bound (behind e) es w.1,
     )
 
 -- the whole text: with a frame in front, and from the parts that the code makes
-pub found_more : (from e : ℕ) (es : List ℕ) (len : ℕ) → found_text from (e ∷ es) len ≡ pair_text from e ++ found_text (behind e) es len
+pub found_more : (from : ℕ) (e : FrameAt) (es : List FrameAt) (len : ℕ) → found_text from (e ∷ es) len ≡ pair_text from e ++ found_text (behind e) es len
 unfolding found_text frames_text last_end
 found_more from e es len =
     append_assoc (pair_text from e) (frames_text (behind e) es) (run_text (last_end (behind e) es) (len - last_end (behind e) es) ++ line_text (end len))
 
-module _ (from : ℕ) (es : List ℕ) (len last : ℕ) (is : last ≡ last_end from es) where
+module _ (from : ℕ) (es : List FrameAt) (len last : ℕ) (is : last ≡ last_end from es) where
   pub listing_of : frames_text from es ++ (run_text last (len - last) ++ line_text (end len)) ≡ found_text from es len
   unfolding found_text
   listing_of = ap (λ (n : ℕ). frames_text from es ++ (run_text n (len - n) ++ line_text (end len))) is
@@ -107,7 +106,7 @@ module _ (from : ℕ) (es : List ℕ) (len last : ℕ) (is : last ≡ last_end f
       )
 
 -- at most 16 bytes for the noise behind the frames, and 9 for the end
-pub found_bound : (from : ℕ) (es : List ℕ) (len : ℕ) → len ≤ 4096 → Within from es len → length (found_text from es len) ≤ 37 * length es + 25
+pub found_bound : (from : ℕ) (es : List FrameAt) (len : ℕ) → len ≤ 4096 → Within from es len → length (found_text from es len) ≤ 37 * length es + 25
 found_bound from es len h w =
     let last = last_end from es in
     let inside : last ≤ len = last_within from es len w in
@@ -120,53 +119,56 @@ found_bound from es len h w =
       at_most_four len (omega arith),
     )
 
+-- what the code reads past the end of a list
+abbrev pub unused : FrameAt
+unused = record { offset = 0; count = 0; kind = 0 }
+
 -- the text from a frame of the list on, and behind the last one
-pub record Step (es : List ℕ) (len from i : ℕ) : Type 0 where
-  pub forward : from ≤ offset_in (get_or es i 0)
-  pub inside : offset_in (get_or es i 0) ≤ len
-  pub within : Within (behind (get_or es i 0)) (drop (i + 1) es) len
-  pub same : frames_text from (drop i es) ≡ pair_text from (get_or es i 0) ++ frames_text (behind (get_or es i 0)) (drop (i + 1) es)
+pub record Step (es : List FrameAt) (len from i : ℕ) (e : FrameAt) : Type 0 where
+  pub forward : from ≤ e.offset
+  pub byte : e.kind < 256
+  pub inside : behind e ≤ len
+  pub within : Within (behind e) (drop (i + 1) es) len
+  pub same : frames_text from (drop i es) ≡ pair_text from e ++ frames_text (behind e) (drop (i + 1) es)
 
-pub step-size : {es : List ℕ} {len from i : ℕ} → Step es len from i
-    → length (frames_text from (drop i es)) ≡ length (pair_text from (get_or es i 0)) + length (frames_text (behind (get_or es i 0)) (drop (i + 1) es))
-step-size {es} {len} {from} {i} n =
-    ap length n.same ∙ length-append (pair_text from (get_or es i 0)) (frames_text (behind (get_or es i 0)) (drop (i + 1) es))
+pub step-size : {es : List FrameAt} {len from i : ℕ} {e : FrameAt} → Step es len from i e
+    → length (frames_text from (drop i es)) ≡ length (pair_text from e) + length (frames_text (behind e) (drop (i + 1) es))
+step-size {es} {len} {from} {i} {e} n =
+    ap length n.same ∙ length-append (pair_text from e) (frames_text (behind e) (drop (i + 1) es))
 
-module _ (es : List ℕ) (len from i : ℕ) where
-  pub step : i < length es → Within from (drop i es) len → Step es len from i
+module _ (es : List FrameAt) (len from i : ℕ) where
+  pub step : i < length es → Within from (drop i es) len → Step es len from i (get_or es i unused)
   unfolding frames_text
   step h w =
-      let e = get_or es i 0 in
-      let cons : drop i es ≡ e ∷ drop (i + 1) es = drop-cons es i 0 h ∙ ap (λ (n : ℕ). e ∷ drop n es) (sym (add-one i)) in
-      let v : Within from (e ∷ drop (i + 1) es) len = subst (λ (x : List ℕ). Within from x len) cons w in
+      let e = get_or es i unused in
+      let cons : drop i es ≡ e ∷ drop (i + 1) es = drop-cons es i unused h ∙ ap (λ (n : ℕ). e ∷ drop n es) (sym (add-one i)) in
+      let v : Within from (e ∷ drop (i + 1) es) len = subst (λ (x : List FrameAt). Within from x len) cons w in
       record {
-        forward = v.0;
-        inside = omega (arith, within_start (behind e) (drop (i + 1) es) len v.1);
+        forward = v.0.0;
+        byte = v.0.1;
+        inside = within_start (behind e) (drop (i + 1) es) len v.1;
         within = v.1;
         same = ap (frames_text from) cons;
       }
 
-pub no_more : (es : List ℕ) (from i : ℕ) → length es ≤ i → frames_text from (drop i es) ≡ []
+pub no_more : (es : List FrameAt) (from i : ℕ) → length es ≤ i → frames_text from (drop i es) ≡ []
 unfolding frames_text
 no_more es from i h = ap (frames_text from) (drop_of_length-le es {i = i} h)
 
 -- the text up to a frame of the list, put from the start of the output on
-pub record Begun (es : List ℕ) (start len : ℕ) (before after : List ℕ) (place from i : ℕ) : Type 0 where
+pub record Begun (es : List FrameAt) (start len : ℕ) (before after : List ℕ) (place from i : ℕ) : Type 0 where
   pub written : List ℕ
   pub put : Put 0 written before after place
   pub same : frames_text start es ≡ written ++ frames_text from (drop i es)
   pub within : Within from (drop i es) len
 
-module _ {es : List ℕ} {start len : ℕ} {o₀ : List ℕ} where
+module _ {es : List FrameAt} {start len : ℕ} {o₀ : List ℕ} where
   pub begun_none : Within start es len → Begun es start len o₀ o₀ 0 start 0
   begun_none w = record { written = []; put = nothing o₀ 0 (omega arith); same = refl; within = w }
 
   module _ {o₁ : List ℕ} {place from i : ℕ} (b : Begun es start len o₀ o₁ place from i) where
-    module _ (h : i < length es) where
-      next : Step es len from i
-      next = step es len from i h b.within
-
-      pub begun_fits : length (frames_text start es) ≤ length o₀ → place + length (pair_text from (get_or es i 0)) ≤ length o₁
+    module _ {e : FrameAt} (next : Step es len from i e) where
+      pub begun_fits : length (frames_text start es) ≤ length o₀ → place + length (pair_text from e) ≤ length o₁
       begun_fits room =
           omega (
             arith,
@@ -174,12 +176,12 @@ module _ {es : List ℕ} {start len : ℕ} {o₀ : List ℕ} where
             step-size next,
           )
 
-      pub begun_more : {o₂ : List ℕ} {to : ℕ} → Put place (pair_text from (get_or es i 0)) o₁ o₂ to → Begun es start len o₀ o₂ to (behind (get_or es i 0)) (i + 1)
+      pub begun_more : {o₂ : List ℕ} {to : ℕ} → Put place (pair_text from e) o₁ o₂ to → Begun es start len o₀ o₂ to (behind e) (i + 1)
       begun_more p = record {
-        written = b.written ++ pair_text from (get_or es i 0);
+        written = b.written ++ pair_text from e;
         put = joined b.put p;
         same = b.same ∙ ap (λ (x : List ℕ). b.written ++ x) next.same
-            ∙ sym (append_assoc b.written (pair_text from (get_or es i 0)) (frames_text (behind (get_or es i 0)) (drop (i + 1) es)));
+            ∙ sym (append_assoc b.written (pair_text from e) (frames_text (behind e) (drop (i + 1) es)));
         within = next.within;
       }
 

@@ -14,7 +14,7 @@ pub stored : (xs old : List ℕ) (at next : ℕ) → at + length xs ≤ length o
 unfolding placed
 stored xs old at next fits moved = record { fits = fits; moved = moved; put = sets-eq xs old at fits }
 
--- the same for the code's stores, of one byte to six
+-- the same for the code's stores, of one byte to four
 module _ (o : List ℕ) (at a : ℕ) where
   pub stored₁ : at + 1 ≤ length o → Put at (a ∷ []) o (set o at a) (at + 1)
   stored₁ h = simp towards_suc (stored (a ∷ []) o at (suc at) h (omega arith))
@@ -32,10 +32,20 @@ module _ (o : List ℕ) (at a : ℕ) where
             → Put at (a ∷ b ∷ c ∷ d ∷ []) o (set (set (set (set o at a) (at + 1) b) (at + 2) c) (at + 3) d) (at + 4)
         stored₄ h = simp towards_suc (stored (a ∷ b ∷ c ∷ d ∷ []) o at (suc (suc (suc (suc at)))) h (omega arith))
 
-        pub stored₆ : (e f : ℕ) → at + 6 ≤ length o
-            → Put at (a ∷ b ∷ c ∷ d ∷ e ∷ f ∷ []) o (set (set (set (set (set (set o at a) (at + 1) b) (at + 2) c) (at + 3) d) (at + 4) e) (at + 5) f) (at + 6)
-        stored₆ e f h =
-            simp towards_suc (stored (a ∷ b ∷ c ∷ d ∷ e ∷ f ∷ []) o at (suc (suc (suc (suc (suc (suc at)))))) h (omega arith))
+-- bytes copied into the part that is as long as they are
+pub put_copied : (xs old ys : List ℕ) (at : ℕ) → at + length xs ≤ length old → ys ≡ xs
+    → Put at xs old (take at old ++ (ys ++ drop (at + length xs - at) (drop at old))) (at + length xs)
+unfolding placed
+put_copied xs old ys at h e =
+    let n : at + length xs - at ≡ length xs = omega arith in
+    record {
+      fits = h;
+      moved = refl;
+      put = ap (λ (y : List ℕ). take at old ++ (y ++ drop (at + length xs - at) (drop at old))) e
+          ∙ ap (λ (k : ℕ). take at old ++ (xs ++ drop k (drop at old))) n
+          ∙ ap (λ (r : List ℕ). take at old ++ (xs ++ r)) (drop-drop (length xs) at old)
+          ∙ sym (append_assoc (take at old) xs (drop (at + length xs) old));
+    }
 
 -- nothing put
 pub nothing : (old : List ℕ) (at : ℕ) → at ≤ length old → Put at [] old old at
@@ -121,5 +131,5 @@ two_parts {xs} {ys} {first} {second} old₁ old₂ e f =
     ∙ take_at (xs ++ ys) old₂ (length xs + length ys) (length-append xs ys)
 
 -- a part up to the end
-pub behind-all : (s : List ℕ) (at : ℕ) → take (length s - at) (drop at s) ≡ drop at s
-behind-all s at = take_all (length s - at) (drop at s) (omega (arith, length-drop at s))
+pub behind-all : {A : Type 0} (s : List A) (at : ℕ) → take (length s - at) (drop at s) ≡ drop at s
+behind-all {A} s at = take_all (length s - at) (drop at s) (omega (arith, length-drop at s))

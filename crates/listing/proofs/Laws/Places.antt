@@ -13,9 +13,10 @@ use borrow.Author.Tests.{ltb-true, ltb-false}
 use Rattle.answer.specs.Answer.{Outcome, accepted}
 use Rattle.link.specs.Frame.{Frame, read_first, size}
 use Rattle.link.proofs.Laws.First.{Starting, starting}
+use Rattle.listing.specs.declared.place.FrameAt.{FrameAt}
 use Rattle.listing.specs.Lines.{Line, frame, end, lines_from, after_noise, judged}
 use Rattle.listing.specs.Text.{line_text, text}
-use Rattle.listing.specs.Parts.{offset_in, count_in, kind_in, behind, run_text, rest, Stands, Quiet}
+use Rattle.listing.specs.Parts.{behind, run_text, rest, Stands, Quiet}
 use Rattle.listing.proofs.Laws.Frames.{refused_by}
 
 -- the bytes of a frame already taken are passed over
@@ -137,11 +138,11 @@ rest_at_end s at h =
     ap (λ (x : List ℕ). text (lines_from at 0 0 x)) (drop_of_length-le s {i = at} h) ∙ append-nil (line_text (end at))
 
 -- a frame, and what follows
-pub frame_then : (s : List ℕ) (e : ℕ) → Stands s e
-    → rest s (offset_in e) ≡ line_text (frame (offset_in e) (count_in e) (kind_in e)) ++ rest s (behind e)
+pub frame_then : (s : List ℕ) (e : FrameAt) → Stands s e
+    → rest s e.offset ≡ line_text (frame e.offset e.count e.kind) ++ rest s (behind e)
 unfolding rest after_noise text
 frame_then s e t =
-    let at = offset_in e in
+    let at = e.offset in
     let f = t.held in
     ap text (a_frame (drop at s) at 0 f t.read
     ∙ ap (λ (x : List ℕ). frame at (size f) f.kind ∷ lines_from (at + size f) 0 0 x) (drop-drop (size f) at s))

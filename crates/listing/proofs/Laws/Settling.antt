@@ -1,4 +1,4 @@
--- Bytes judged place by place, with the frames among them kept as numbers. Assumes nothing.
+-- Bytes judged place by place, with the frames among them kept. Assumes nothing.
 use mathlib.Core.Path.{◌≡◌, refl, sym, ap, ap₂, ◌∙◌}
 use mathlib.Core.Bool.{true, false}
 use mathlib.Core.List.{List, [], ◌∷◌, ◌++◌, append-nil, append_assoc}
@@ -11,24 +11,25 @@ use lib.Seq.{take_at, length-take-le, drop-cons, drop-drop, drop-length, drop-ap
 use Rattle.answer.specs.Answer.{accepted}
 use Rattle.link.specs.Frame.{Frame, read_first, size}
 use Rattle.link.proofs.Laws.First.{Starting, starting}
+use Rattle.listing.specs.declared.place.FrameAt.{FrameAt}
 use Rattle.listing.specs.Lines.{Line, frame, end, lines_from, after_noise}
 use Rattle.listing.specs.Text.{line_text, text}
 use Rattle.listing.specs.State.{settled}
 use Rattle.listing.specs.Pieces.{Progress, after, judged_from}
-use Rattle.listing.specs.Parts.{offset_in, count_in, kind_in, behind, run_text, pair_text, frames_text, last_end, found_text, Within, lines_of, judged_at, Settles, Ends}
+use Rattle.listing.specs.Parts.{behind, run_text, pair_text, frames_text, last_end, found_text, Within, lines_of, judged_at, Settles, Ends}
 use Rattle.listing.proofs.Laws.FramesText.{within_more, last_within, last_joined, within-joined}
 use Rattle.listing.proofs.Laws.Judging.{at_noise, at_frame, after_first, onward, appended}
 use Rattle.listing.proofs.Laws.Places.{no_frame, text_after, text_joined}
 use Rattle.listing.proofs.Laws.Settled.{unsettled_none, settled_stays, frame_stays, stays_frame}
 
 -- the lines of frames, and of others behind them
-lines-joined : (from : ℕ) (es fs : List ℕ) → lines_of from (es ++ fs) ≡ lines_of from es ++ lines_of (last_end from es) fs
+lines-joined : (from : ℕ) (es fs : List FrameAt) → lines_of from (es ++ fs) ≡ lines_of from es ++ lines_of (last_end from es) fs
 unfolding lines_of last_end
 lines-joined from [] fs = refl
 lines-joined from (e ∷ es) fs =
-    let l = frame (offset_in e) (count_in e) (kind_in e) in
-    ap (λ (ls : List Line). after_noise (offset_in e) (offset_in e - from) (l ∷ ls)) (lines-joined (behind e) es fs)
-    ∙ after_first (offset_in e) (offset_in e - from) l (lines_of (behind e) es) (lines_of (last_end (behind e) es) fs)
+    let l = frame e.offset e.count e.kind in
+    ap (λ (ls : List Line). after_noise e.offset (e.offset - from) (l ∷ ls)) (lines-joined (behind e) es fs)
+    ∙ after_first e.offset (e.offset - from) l (lines_of (behind e) es) (lines_of (last_end (behind e) es) fs)
 
 after_both : (ls ms : List Line) (j : Progress) → after ls (after ms j) ≡ after (ls ++ ms) j
 after_both ls ms j = ap (λ (x : List Line). record { lines = x; run = j.run; unread = j.unread }) (sym (append_assoc ls ms j.lines))
@@ -43,7 +44,7 @@ settles_none s base from h = record {
   same = λ t. ap (λ (n : ℕ). judged_at from n (s ++ t)) (sym (add-zero base));
 }
 
-module _ {s : List ℕ} {base from : ℕ} {es : List ℕ} {at : ℕ} (g : Settles s base from es at) where
+module _ {s : List ℕ} {base from : ℕ} {es : List FrameAt} {at : ℕ} (g : Settles s base from es at) where
   last : ℕ
   last = last_end from es
 
@@ -77,15 +78,15 @@ module _ {s : List ℕ} {base from : ℕ} {es : List ℕ} {at : ℕ} (g : Settle
           (λ f is. none f (ap read_first cons ∙ stays_frame (b ∷ r) t (ap settled (sym cons) ∙ e) f is))
           ∙ ap₂ (λ (k m : ℕ). judged_from k m 0 (r ++ t)) o n
 
-  -- one frame more, with the number that stands for it
-  module _ (f : Frame) (is : read_first (drop at s) ≡ accepted f) (e : ℕ) (here : offset_in e ≡ base + at) (counts : count_in e ≡ size f) (types : kind_in e ≡ f.kind) where
+  -- one frame more
+  module _ (f : Frame) (is : read_first (drop at s) ≡ accepted f) (e : FrameAt) (here : e.offset ≡ base + at) (counts : e.count ≡ size f) (types : e.kind ≡ f.kind) (byte : f.kind < 256) where
     w : Starting (drop at s) f
     w = starting (drop at s) f is
 
     its_line : after_noise (base + at) (base + at - last_end from es) (frame (base + at) (size f) f.kind ∷ []) ≡ lines_of (last_end from es) (e ∷ [])
     unfolding lines_of
     its_line =
-        sym (ap₂ (λ (o n : ℕ). after_noise o (o - last_end from es) (frame o n (kind_in e) ∷ [])) here counts
+        sym (ap₂ (λ (o n : ℕ). after_noise o (o - last_end from es) (frame o n e.kind ∷ [])) here counts
         ∙ ap (λ (k : ℕ). after_noise (base + at) (base + at - last_end from es) (frame (base + at) (size f) k ∷ [])) types)
 
     its_end : last_end from (es ++ (e ∷ [])) ≡ base + (at + size f)
@@ -99,7 +100,7 @@ module _ {s : List ℕ} {base from : ℕ} {es : List ℕ} {at : ℕ} (g : Settle
     settles_frame = record {
       within = omega (arith, w.inside, g.within, length-drop at s);
       few = omega (arith, g.few, w.least, length-append es (e ∷ []));
-      inside = within-joined from es (e ∷ []) (base + at) (base + (at + size f)) g.inside (omega (arith, last_here), omega arith);
+      inside = within-joined from es (e ∷ []) (base + at) (base + (at + size f)) g.inside ((omega (arith, last_here), omega (arith, types, byte)), omega arith);
       same = λ t. g.same t ∙ ap (after (lines_of from es)) (one t) ∙ after_both (lines_of from es) (lines_of (last_end from es) (e ∷ [])) (later t)
           ∙ ap (λ (ls : List Line). after ls (later t)) (sym (lines-joined from es (e ∷ [])));
     }
@@ -114,7 +115,7 @@ module _ {s : List ℕ} {base from : ℕ} {es : List ℕ} {at : ℕ} (g : Settle
             ∙ ap₂ (λ (k m : ℕ). after (lines_of (last_end from es) (e ∷ [])) (judged_from k m 0 (drop (at + size f) s ++ t))) o n
 
   -- more bytes behind these, and judged on
-  pub settles_on : (t : List ℕ) (fs : List ℕ) (more : ℕ) → Settles (drop at (s ++ t)) (base + at) (last_end from es) fs more
+  pub settles_on : (t : List ℕ) (fs : List FrameAt) (more : ℕ) → Settles (drop at (s ++ t)) (base + at) (last_end from es) fs more
       → Settles (s ++ t) base from (es ++ fs) (at + more)
   settles_on t fs more h = record {
     within = omega (arith, h.within, g.within, length-drop at (s ++ t), length-append s t);
@@ -152,8 +153,8 @@ ends_none s base from h = record {
   same = ap (λ (n : ℕ). lines_from n (n - from) 0 s) (sym (add-zero base));
 }
 
-pub ends_on : {s : List ℕ} {base from : ℕ} {es : List ℕ} {at : ℕ} → Ends s base from es at → at < length s → settled (drop at s) ≡ false
-    → (fs : List ℕ) (more : ℕ) → Settles (drop (at + 1) s) (base + (at + 1)) (last_end from es) fs more → Ends s base from (es ++ fs) (at + 1 + more)
+pub ends_on : {s : List ℕ} {base from : ℕ} {es : List FrameAt} {at : ℕ} → Ends s base from es at → at < length s → settled (drop at s) ≡ false
+    → (fs : List FrameAt) (more : ℕ) → Settles (drop (at + 1) s) (base + (at + 1)) (last_end from es) fs more → Ends s base from (es ++ fs) (at + 1 + more)
 ends_on {s} {base} {from} {es} {at} g h e fs more k =
     let b = get_or s at 0 in
     let last = last_end from es in
@@ -178,31 +179,31 @@ ends_on {s} {base} {from} {es} {at} g h e fs more k =
     }
 
 -- a part of a list from a place on, put back with so many kept in it
-pub part-kept : (n count : ℕ) (old part later : List ℕ) → n ≤ length old → count ≤ length part
+pub part-kept : (n count : ℕ) (old part later : List FrameAt) → n ≤ length old → count ≤ length part
     → take (n + count) (take n old ++ (part ++ later)) ≡ take n old ++ take count part
 part-kept n count old part later h k =
     let a = take n old in
     let b = take count part in
     let c = drop count part ++ later in
     let long : length (a ++ b) ≡ n + count = omega (arith, length-append a b, length-take-le n old h, length-take-le count part k) in
-    ap (λ (x : List ℕ). take (n + count) (a ++ (x ++ later))) (sym (take-append-drop count part))
-    ∙ ap (λ (x : List ℕ). take (n + count) (a ++ x)) (append_assoc b (drop count part) later)
+    ap (λ (x : List FrameAt). take (n + count) (a ++ (x ++ later))) (sym (take-append-drop count part))
+    ∙ ap (λ (x : List FrameAt). take (n + count) (a ++ x)) (append_assoc b (drop count part) later)
     ∙ ap (take (n + count)) (sym (append_assoc a b c))
     ∙ take_at (a ++ b) c (n + count) long
 
 -- the text of the lines
-pub text_of_lem : (from : ℕ) (es : List ℕ) (len : ℕ) → Within from es len → text (lines_of from es) ≡ frames_text from es
+pub text_of_lem : (from : ℕ) (es : List FrameAt) (len : ℕ) → Within from es len → text (lines_of from es) ≡ frames_text from es
 unfolding lines_of frames_text pair_text text
 text_of_lem from [] len h = refl
 text_of_lem from (e ∷ es) len h =
-    let o = offset_in e in
-    let l = frame o (count_in e) (kind_in e) in
-    let back : o - (o - from) ≡ from = omega (arith, h.0) in
+    let o = e.offset in
+    let l = frame o e.count e.kind in
+    let back : o - (o - from) ≡ from = omega (arith, h.0.0) in
     text_after o (o - from) (l ∷ lines_of (behind e) es)
     ∙ ap₂ (λ (n : ℕ) (x : List ℕ). run_text n (o - from) ++ (line_text l ++ x)) back (text_of_lem (behind e) es len h.1)
     ∙ sym (append_assoc (run_text from (o - from)) (line_text l) (frames_text (behind e) es))
 
-pub ends_text : {s : List ℕ} {base from : ℕ} {es : List ℕ} → Ends s base from es (length s)
+pub ends_text : {s : List ℕ} {base from : ℕ} {es : List FrameAt} → Ends s base from es (length s)
     → text (lines_from base (base - from) 0 s) ≡ found_text from es (base + length s)
 unfolding found_text lines_from text
 ends_text {s} {base} {from} {es} g =

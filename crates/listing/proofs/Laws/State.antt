@@ -9,8 +9,8 @@ use native.Mathlib.Omega.{arith}
 use lib.Bits.{bit_or, or_add_and, and_le_r}
 use lib.Dec.{eqb, leb, eqb-suc-zero}
 use lib.ListN.{length, get_or, take, drop, set, length-append, length-take, length-drop, take-append-drop, drop_of_length-le}
-use lib.Seq.{take-length, take-suc-set, drop-cons, length-take-le, take-append_seam, drop-append_seam}
-use borrow.Author.Tests.{eqb-true, leb-true, eq-eqb, ne_eqb, le-leb, lt-leb, not-true}
+use lib.Seq.{take-length, drop-cons, length-take-le, take-append_seam, drop-append_seam}
+use borrow.Author.Tests.{eqb-true, leb-true, eq-eqb, ne_eqb, le-leb, not-true}
 use Rattle.listing.proofs.Laws.Output.{behind-all}
 use Rattle.listing.proofs.Laws.Settled.{unsettled_few}
 use Rattle.listing.specs.State.{State, as_state, settled, possible, zeros, all_zero, word, state_bytes, state_of, is_state, fresh}
@@ -20,15 +20,6 @@ and_parts true b e = (refl, e)
 and_parts false b e = absurd (false≢true e)
 
 -- ---- zero bytes
-
-zeros_more : (n : ℕ) → zeros n ++ (0 ∷ []) ≡ zeros (suc n)
-unfolding zeros
-zeros_more zero = refl
-zeros_more (suc n) = ap (λ (x : List ℕ). 0 ∷ x) (zeros_more n)
-
-pub zeros_none : (s : List ℕ) → take 0 s ≡ zeros 0
-unfolding zeros
-zeros_none s = refl
 
 pub zeros-length : (n : ℕ) → length (zeros n) ≡ n
 unfolding zeros
@@ -62,16 +53,7 @@ or_zero (suc m) n =
     ne_eqb (bit_or (suc m) n) 0 h ∙ sym (ap (λ (t : Bool). t && eqb n 0) (eqb-suc-zero m))
 
 module _ (s : List ℕ) (i : ℕ) (h : i < length s) where
-  -- one byte more is cleared
-  pub cleared_more : take i s ≡ zeros i → take (i + 1) (set s i 0) ≡ zeros (i + 1)
-  cleared_more e =
-      ap (λ (k : ℕ). take k (set s i 0)) (add-one i)
-      ∙ take-suc-set s i 0 h
-      ∙ ap (λ (x : List ℕ). x ++ (0 ∷ [])) e
-      ∙ zeros_more i
-      ∙ ap zeros (sym (add-one i))
-
-  -- and one byte more is looked at
+  -- one byte more is looked at
   pub zero_more : (all : ℕ) → (eqb all 0 && all_zero (drop i s)) ≡ (eqb (bit_or all (get_or s i 0)) 0 && all_zero (drop (i + 1) s))
   unfolding all_zero
   zero_more all =
@@ -83,29 +65,11 @@ pub zero_ended : (s : List ℕ) (i : ℕ) → length s ≤ i → (t : Bool) → 
 unfolding all_zero
 zero_ended s i h t = ap (λ (x : List ℕ). t && all_zero x) (drop_of_length-le s {i = i} h) ∙ and-true t
 
--- ---- a state that pieces lead to, a law for each answer
+-- ---- a state that pieces lead to
 
 module _ (came run : ℕ) (s : List ℕ) where
-  pub too_many : 4096 < came → possible (as_state came run s) ≡ false
-  unfolding possible
-  too_many h = simp (lt-leb came 4096 h)
-
   module _ (most : came ≤ 4096) where
-    pub too_late : came < run + length s → possible (as_state came run s) ≡ false
-    unfolding possible
-    too_late h = simp (le-leb came 4096 most, lt-leb (run + length s) came h)
-
     module _ (late : run + length s ≤ came) where
-      pub too_early : (came - (run + length s) ≡ 0 → ⊥) → came - (run + length s) < 5 → possible (as_state came run s) ≡ false
-      unfolding possible
-      too_early some h =
-          simp (
-            le-leb came 4096 most,
-            le-leb (run + length s) came late,
-            ne_eqb (came - (run + length s)) 0 some,
-            lt-leb 5 (came - (run + length s)) h,
-          )
-
       pub by_nothing : came - (run + length s) ≡ 0 → possible (as_state came run s) ≡ not (settled s)
       unfolding possible
       by_nothing none =

@@ -1,6 +1,6 @@
 -- A piece taken: from what judging and closing give, and where no place is judged. Assumes nothing.
 use mathlib.Core.Path.{◌≡◌, refl, sym, ap, ap₂, subst, ◌∙◌}
-use mathlib.Core.Bool.{Bool, true, false, not}
+use mathlib.Core.Bool.{true, false, not}
 use mathlib.Core.List.{List, [], ◌∷◌, ◌++◌, append_assoc, append-nil}
 use Prim.Native.Nat.{ℕ, suc, ◌+◌, ◌-◌, ◌/◌, ◌%◌, ◌<◌, ◌≤◌}
 use native.Mathlib.Nat.{add-zero}
@@ -8,16 +8,16 @@ use native.Mathlib.Omega.{arith}
 use lib.Dec.{ltb}
 use lib.ListN.{length, get_or, take, drop, set, length-append, length-drop, drop_of_length-le, length-take}
 use lib.Seq.{take_all, take-length, take-add, drop_at, drop-append-add, take-append_seam, drop-append_seam, length-take-le}
-use borrow.Author.Tests.{ltb-true, ltb-false}
 use Rattle.answer.specs.Answer.{Outcome, refused, accepted, refuse_if}
 use Rattle.answer.proofs.Laws.Test.{holds, fails, below, not_below}
 use Rattle.link.proofs.Laws.First.{starting}
+use Rattle.listing.specs.declared.place.FrameAt.{FrameAt}
 use Rattle.listing.specs.Lines.{Line}
 use Rattle.listing.specs.Text.{text}
 use Rattle.listing.specs.State.{State, as_state, unread_at, settled, zeros, state_bytes, state_of, is_state}
 use Rattle.listing.specs.Pieces.{Progress, after, judged_from, judged_piece, Call, piece_taken, lent_room, piece}
 use Rattle.listing.specs.Parts.{Within, Settles, lines_of, judged_at, last_end, closed}
-use Rattle.listing.proofs.Laws.Closing.{Owed, call_with_room, the_state, known_possible}
+use Rattle.listing.proofs.Laws.Closing.{Owed, call_with_room, known_possible}
 use Rattle.listing.proofs.Laws.FramesText.{within_more}
 use Rattle.listing.proofs.Laws.Judging.{left_open, at_open, at_noise}
 use Rattle.listing.proofs.Laws.Settling.{text_of_lem}
@@ -44,7 +44,7 @@ module _ (b : List ℕ) (known : is_state b ≡ true) where
 
 -- ---- a piece that is judged
 
-module _ (st : State) (p : Possible st) (bytes es : List ℕ) (at : ℕ) where
+module _ (st : State) (p : Possible st) (bytes : List ℕ) (es : List FrameAt) (at : ℕ) where
   abbrev all : List ℕ
   all = st.unread ++ bytes
 
@@ -101,19 +101,14 @@ above_most room b bytes known h =
 pub record Ready (b bytes : List ℕ) (came run : ℕ) (u : List ℕ) : Type 0 where
   pub known : is_state b ≡ true
   pub most : (state_of b).came + length bytes ≤ 4096
-  pub is_came : came ≡ (state_of b).came
-  pub is_run : run ≡ (state_of b).run
-  pub is_unread : u ≡ (state_of b).unread
+  pub is : as_state came run u ≡ state_of b
 
 module _ {b bytes : List ℕ} {came run : ℕ} {u : List ℕ} (k : Ready b bytes came run u) where
-  parts : as_state came run u ≡ state_of b
-  parts = the_state b k.known k.is_came k.is_run k.is_unread
-
   facts : Possible (as_state came run u)
-  facts = known_possible b k.known k.is_came k.is_run k.is_unread
+  facts = known_possible b k.known k.is
 
   pub ready_most : came + length bytes ≤ 4096
-  ready_most = omega (arith, k.most, k.is_came)
+  ready_most = omega (arith, k.most, ap (λ (st : State). st.came) k.is)
 
   pub ready_late : run + length u ≤ came
   ready_late = facts.late
@@ -122,7 +117,7 @@ module _ {b bytes : List ℕ} {came run : ℕ} {u : List ℕ} (k : Ready b bytes
   ready_few = unsettled_few u facts.unsettled
 
   -- judged up to a place, with the bytes left over
-  module _ {es left : List ℕ} {at : ℕ} (g : Settles (u ++ bytes) (came - length u) (came - length u - run) es at)
+  module _ {es : List FrameAt} {left : List ℕ} {at : ℕ} (g : Settles (u ++ bytes) (came - length u) (came - length u - run) es at)
       (stops : settled (drop at (u ++ bytes)) ≡ false) (rest : left ≡ drop at (u ++ bytes)) where
     left-length : length left ≡ length u + length bytes - at
     left-length = ap length rest ∙ length-drop at (u ++ bytes) ∙ ap (λ (n : ℕ). n - at) (length-append u bytes)
@@ -145,7 +140,7 @@ module _ {b bytes : List ℕ} {came run : ℕ} {u : List ℕ} (k : Ready b bytes
     piece-closed : (room : ℕ) → piece room b bytes ≡ lent_room room (closed (came - length u - run) (came + length bytes) es left)
     piece-closed room =
         past_checks room b bytes k.known k.most
-        ∙ ap (λ (st : State). lent_room room (piece_taken st bytes)) (sym parts)
+        ∙ ap (λ (st : State). lent_room room (piece_taken st bytes)) (sym k.is)
         ∙ ap (lent_room room) (taken_so (as_state came run u) facts bytes es at g stops)
         ∙ ap (λ (x : List ℕ). lent_room room (closed (came - length u - run) (came + length bytes) es x)) (sym rest)
 
@@ -203,20 +198,6 @@ module _ (b bytes : List ℕ) (known : is_state b ≡ true) where
 -- none of so many first bytes starts a frame
 abbrev pub NoiseTo : List ℕ → ℕ → Type 0
 NoiseTo s n = (i : ℕ) → i < n → get_or s i 0 ≡ 0x5A → ⊥
-
--- as the loop finds it, byte by byte
-module _ (s : List ℕ) where
-  pub noise_none : NoiseTo s 0
-  noise_none j h = let z : ⊥ = omega arith in absurd z
-
-  pub noise_more : (i : ℕ) → NoiseTo s i → (get_or s i 0 ≡ 0x5A → ⊥) → NoiseTo s (i + 1)
-  noise_more i before here j h = go (ltb j i) refl
-    where
-      go : (t : Bool) → ltb j i ≡ t → get_or s j 0 ≡ 0x5A → ⊥
-      go true e = before j (ltb-true j i e)
-      go false e =
-          let same : i ≡ j = omega (arith, ltb-false j i e) in
-          λ d. here (ap (λ (k : ℕ). get_or s k 0) same ∙ d)
 
 -- bytes of which none starts a frame make the run of noise longer, and none stays unread
 noise-run : (s : List ℕ) (offset run : ℕ) → NoiseTo s (length s) → judged_from offset run 0 s ≡ left_open (run + length s) []

@@ -8,6 +8,7 @@ use lib.Dec.{ltb}
 use lib.ListN.{length, take, drop, length-append, length-take, length-drop, take-append-drop, drop_of_length-le}
 use lib.Seq.{take_all, drop-drop, drop-append-add}
 use borrow.Author.Tests.{ltb-true, ltb-false}
+use Rattle.listing.specs.declared.place.FrameAt.{FrameAt}
 use Rattle.listing.specs.State.{settled}
 use Rattle.listing.specs.Parts.{last_end, Settles}
 use Rattle.listing.proofs.Laws.Settling.{settles_on}
@@ -42,7 +43,7 @@ module _ (unread piece : List ℕ) (more : ℕ) (within : more ≤ length piece)
         let e : at ≡ length unread + (at - length unread) = omega arith in
         ap (drop at) whole ∙ ap (λ (n : ℕ). drop n (unread ++ piece)) e ∙ drop-append-add unread piece (at - length unread)
 
-    pub on_in_piece : {base from : ℕ} {es fs : List ℕ} {further : ℕ} → Settles window base from es at
+    pub on_in_piece : {base from : ℕ} {es fs : List FrameAt} {further : ℕ} → Settles window base from es at
         → Settles (drop (at - length unread) piece) (base + at) (last_end from es) fs further
         → Settles (unread ++ piece) base from (es ++ fs) (at + further)
     on_in_piece {base} {from} {es} {fs} {further} g h =
@@ -64,5 +65,5 @@ module _ (unread piece : List ℕ) (more : ℕ) (within : more ≤ length piece)
         go false e = ap settled (drop_of_length-le rest {i = further} (ltb-false further (length rest) e)) ∙ none_unsettled [] refl
 
 -- frames kept behind others
-pub kept_count : (kept part behind : List ℕ) (n m : ℕ) → n ≤ length kept → m ≤ length part → n + m ≤ length (take n kept ++ (part ++ behind))
+pub kept_count : (kept part behind : List FrameAt) (n m : ℕ) → n ≤ length kept → m ≤ length part → n + m ≤ length (take n kept ++ (part ++ behind))
 kept_count kept part behind n m h g = omega (arith, length-append (take n kept) (part ++ behind), length-append part behind, length-take n kept)

@@ -1,23 +1,33 @@
 -- The text of numbers and of bytes in hex, and what of it fits. Assumes nothing.
-use mathlib.Core.Path.{◌≡◌, refl, sym, ap, ◌∙◌}
+use mathlib.Core.Path.{◌≡◌, refl, sym, ap, ap₂, ◌∙◌}
 use mathlib.Core.List.{List, [], ◌∷◌, ◌++◌}
 use mathlib.Core.Bool.{Bool, true, false}
 use Prim.Native.Nat.{ℕ, suc, ◌+◌, ◌*◌, ◌-◌, ◌/◌, ◌%◌, ◌<◌, ◌≤◌}
 use native.Mathlib.Numerals.{add-one}
 use native.Mathlib.Omega.{arith}
 use lib.Dec.{ltb}
-use lib.ListN.{length, get_or, take}
+use lib.ListN.{length, get_or, take, drop}
 use borrow.Author.Tests.{ltb-true, ltb-false}
 use lib.Seq.{take-suc, take_all, length-take-le}
 use Rattle.answer.specs.Answer.{number_of}
 use Rattle.answer.specs.declared.Refusal.{Refusal}
 use Rattle.answer.specs.declared.Refusal.TheVariants.{Short, Start, Length, Long, Checksum, Unknown, TypeLength, Field, Room, Total}
-use Rattle.listing.specs.Parts.{Put}
+use Rattle.listing.specs.Parts.{Put, placed}
 use Rattle.listing.specs.Text.{digit, field, space, line_feed}
 use Rattle.listing.proofs.Laws.Numbers.{below_10, below_100, below_1000}
 use Rattle.listing.proofs.Laws.Output.{put-length}
 use Rattle.mend.specs.Parts.{spaced}
 use Rattle.mend.specs.Printed.{place_word, hex_field, hex_line}
+
+-- bytes copied to the start
+pub begins : (xs old part : List ℕ) → part ≡ xs → length xs ≤ length old → Put 0 xs old (part ++ drop (length xs) old) (length xs)
+unfolding placed
+begins xs old part e h =
+    record {
+      fits = omega arith;
+      moved = omega arith;
+      put = ap₂ (λ (s : List ℕ) (n : ℕ). s ++ drop n old) e (omega arith);
+    }
 
 -- a number of one, two or three digits, and a line feed
 pub one_digit : (n : ℕ) → n < 10 → field n line_feed ≡ digit n ∷ line_feed ∷ []

@@ -2,7 +2,7 @@
 use mathlib.Core.Path.{◌≡◌, refl, sym, ap, ◌∙◌}
 use mathlib.Core.Bool.{Bool, true, false, not, xor}
 use mathlib.Core.List.{List}
-use Prim.Native.Nat.{ℕ, zero, suc, ◌+◌, ◌-◌, ◌*◌, ◌<◌, ◌≤◌}
+use Prim.Native.Nat.{ℕ, ◌+◌, ◌-◌, ◌*◌, ◌<◌, ◌≤◌}
 use native.Mathlib.Omega.{arith}
 use lib.Bits.{bit_xor}
 use lib.Dec.{T, eqb}
@@ -20,7 +20,6 @@ use Rattle.link.specs.Frame.{Frame, read_frame, read_body}
 use Rattle.link.proofs.Laws.Remainder.{Fits, accepted_fits, refused_fits, frame_of_remainder_0, no_frame_else}
 use Rattle.mending.specs.Mending.{flipped_at, makes_frame, place_from, place, Mended, mend_by, mend}
 use Rattle.mending.specs.Claim.{Mends, Mending}
-use Rattle.mending.specs.Parts.{place_of}
 use Rattle.mending.proofs.Laws.Flips.{flipped_length, fits_flipped, fits_back, flipped_bytes, makes, remainder, remainder_of, one_place, only, right_has_none}
 use Rattle.mending.proofs.Laws.Search.{found_from, none_from, accepted-from, refused-from}
 
@@ -99,11 +98,6 @@ module _ (s : List ℕ) where
 
 -- ---- by the remainder, as the code finds it
 
--- a place as the code has it
-pub some_place : (p : ℕ) → (p ≡ 0 → ⊥) → place_of p ≡ accepted p
-some_place zero some = absurd (some refl)
-some_place (suc p) some = refl
-
 -- what is refused for its CRC has as many bytes as a frame
 pub damaged_size : (s : List ℕ) → read_frame s ≡ refused 5 → (5 ≤ length s) × (length s ≤ 69)
 damaged_size s e =
@@ -111,13 +105,12 @@ damaged_size s e =
     (omega (arith, fits.some, fits.whole), omega (arith, fits.within, fits.whole))
 
 module _ (s : List ℕ) (bytes : T (are_bytes s)) (wrong : read_frame s ≡ refused 5) where
-  pub found : (p : ℕ) → 8 ≤ p → p < 8 * (length s - 1) → crc (drop 1 s) ≡ turns (8 * (length s - 1) - p) 1 → place_of p ≡ place s
-  found zero after inside e = let z : ⊥ = omega arith in absurd z
-  found (suc p) after inside e =
-      let f = is_accepted_lem (read_frame (flipped_at s (suc p))) (makes s (suc p) bytes inside (refused_fits s wrong) after e) in
-      sym (place_found s (suc p) bytes (record { after = after; inside = inside; frame = f.0; makes = f.1 }))
+  pub found : (p : ℕ) → 8 ≤ p → p < 8 * (length s - 1) → crc (drop 1 s) ≡ turns (8 * (length s - 1) - p) 1 → accepted p ≡ place s
+  found p after inside e =
+      let f = is_accepted_lem (read_frame (flipped_at s p)) (makes s p bytes inside (refused_fits s wrong) after e) in
+      sym (place_found s p bytes (record { after = after; inside = inside; frame = f.0; makes = f.1 }))
 
-  pub none_found : ((p : ℕ) → 8 ≤ p → p < 8 * (length s - 1) → crc (drop 1 s) ≡ turns (8 * (length s - 1) - p) 1 → ⊥) → place_of 0 ≡ place s
+  pub none_found : ((p : ℕ) → 8 ≤ p → p < 8 * (length s - 1) → crc (drop 1 s) ≡ turns (8 * (length s - 1) - p) 1 → ⊥) → refused 5 ≡ place s
   none_found none =
       sym (no_place_found s (λ p m. none p m.after m.inside (remainder_of s p bytes m.inside m.frame m.makes)))
 

@@ -38,8 +38,8 @@ pub overflow_sub-p : goal.overflow_sub-p
 overflow_sub-p c =
     let size = damaged_size c.args.bytes.now c.requires in omega (arith, size.0)
 
-pub overflow_mul-p : goal.overflow_mul-p
-overflow_mul-p c =
+pub overflow_step-p : goal.overflow_step-p
+overflow_step-p c =
     let size = damaged_size c.args.bytes.now c.requires in omega (arith, size.1)
 
 pub loop-p-init : goal.loop-p-init
@@ -48,9 +48,6 @@ loop-p-init c =
     let n = 8 * (length c.args.bytes.now - 1) in
     let none : 0 ≡ n - n = omega arith in
     (omega (arith, size.0), omega arith, ap (λ (k : ℕ). turns k 1) none, λ q h l e. omega arith)
-
-pub overflow_sub-p-in-loop-p : goal.overflow_sub-p-in-loop-p
-overflow_sub-p-in-loop-p c = omega arith
 
 pub overflow_cast-result : goal.overflow_cast-result
 overflow_cast-result c =
@@ -64,10 +61,7 @@ returns-then-turned-remainder c =
     turned_on n c.loop-p.p c.loop-p.turned c.turn-turned.result c.loop-p.invariant.0 c.loop-p.invariant.1 c.loop-p.invariant.2 c.turn-turned.ensures in
     let all : take (length s - 1) (drop 1 s) ≡ drop 1 s = take_all (length s - 1) (drop 1 s) (omega (arith, length-drop 1 s)) in
     found s (are_bytes_lem s (λ j. (c.type_inv.bytes j).fits)) c.requires (c.loop-p.p - 1) (omega arith) (omega (arith, c.loop-p.invariant.1))
-    (ap crc (sym all) ∙ sym c.crc16-remainder.ensures ∙ sym c.if-turned-remainder.true ∙ here)
-
-pub loop-p-smaller : goal.loop-p-smaller
-loop-p-smaller c = omega arith
+    (ap crc (sym all) ∙ sym (c.from-remainder.ensures ∙ c.crc16.ensures) ∙ sym c.if-turned-remainder.true ∙ here)
 
 pub loop-p-preserved : goal.loop-p-preserved
 loop-p-preserved c =
@@ -78,7 +72,7 @@ loop-p-preserved c =
       omega arith,
       omega (arith, c.loop-p.invariant.1),
       here,
-      still-none n c.loop-p.p c.crc16-remainder.result c.turn-turned.result (omega arith) here c.if-turned-remainder.false c.loop-p.invariant.3,
+      still-none n c.loop-p.p c.from-remainder.result c.turn-turned.result (omega arith) here c.if-turned-remainder.false c.loop-p.invariant.3,
     )
 
 pub returns : goal.returns
@@ -86,4 +80,4 @@ returns c =
     let s = c.args.bytes.now in
     let all : take (length s - 1) (drop 1 s) ≡ drop 1 s = take_all (length s - 1) (drop 1 s) (omega (arith, length-drop 1 s)) in
     none_found s (are_bytes_lem s (λ j. (c.type_inv.bytes j).fits)) c.requires
-    (λ q h l e. c.loop-p.invariant.3 q (omega arith) l (c.crc16-remainder.ensures ∙ ap crc all ∙ e))
+    (λ q h l e. c.loop-p.invariant.3 q (omega arith) l (c.from-remainder.ensures ∙ c.crc16.ensures ∙ ap crc all ∙ e))

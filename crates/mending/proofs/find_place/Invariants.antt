@@ -9,6 +9,3 @@ abbrev pub invariant-loop-p : goal.invariant-loop-p
 invariant-loop-p l =
     (8 ≤ l.p) × (l.p ≤ 8 * (length l.bytes - 1)) × (l.turned ≡ turns (8 * (length l.bytes - 1) - l.p) 1)
     × ((q : ℕ) → l.p ≤ q → q < 8 * (length l.bytes - 1) → l.remainder ≡ turns (8 * (length l.bytes - 1) - q) 1 → ⊥)
-
-abbrev pub decreases-loop-p : goal.decreases-loop-p
-decreases-loop-p l = l.p

@@ -1,27 +1,24 @@
 -- The number of a message's refusal: what it is where the message is accepted, and what where it is refused. Assumes nothing.
-use mathlib.Core.Path.{◌≡◌, refl, sym, ap, ap₂, ◌∙◌}
+use mathlib.Core.Path.{◌≡◌, refl, sym, ap, ◌∙◌}
 use mathlib.Core.Bool.{Bool, true, false, cond, not, ◌||◌}
-use mathlib.Core.List.{List, [], ◌∷◌}
+use mathlib.Core.List.{List}
 use Prim.Native.Nat.{ℕ, ◌+◌, ◌*◌, ◌%◌, ◌≤◌}
 use native.Mathlib.Omega.{arith}
 use lib.Dec.{eqb, ltb}
 use lib.ListN.{length, get_or, drop, length-drop}
-use borrow.Author.Tests.{eqb-true, eqb-false}
-use Rattle.answer.specs.Answer.{Outcome, refused, accepted, refuse_if, and_then, on_accepted}
-use Rattle.answer.specs.Packed.{packed, byte}
+use borrow.Author.Tests.{eqb-true}
+use Rattle.answer.specs.Answer.{Outcome, refused, accepted, refuse_if, on_accepted}
 use Rattle.link.specs.Frame.{Frame}
 use Rattle.message.specs.Command.{command_listed, command_of, checked_command, read_command}
 use Rattle.message.specs.Lists.{zone_status_type, events_type, message_status_type, zone_of, word_of, zones, zones_listed, words, texts}
 use Rattle.message.specs.Log.{log_listed, log_of, read_log}
 use Rattle.message.specs.Message.{Message, fixed, zone_status, events, message_status, digits_listed, order_listed, status_length, read_plain, read_login, read_zone_request, read_zone_status, read_events, read_message_status, with_data, message_of, counted}
-use Rattle.message.specs.Parts.{fault_of, fault_number, is_plain, texts_in, items_in, packed_unless}
-use Rattle.message.specs.Fields.{message_fields}
+use Rattle.message.specs.Parts.{texts_in, items_in}
 use Rattle.message.specs.Typed.{fixed_frame, count_of}
 use Rattle.message.specs.declared.message.Fixed.{Fixed}
 use Rattle.message.specs.declared.message.Fixed.TheVariants as F
 use Rattle.message.proofs.Laws.Accepts.{every_type, every_plain, every_login, every_request, every-zones, every-events, every-texts, every_log, every_command}
 use Rattle.message.proofs.Laws.Checked.{never}
-use Rattle.message.proofs.Laws.Carried.{kind_of_lem}
 use Rattle.message.proofs.Laws.Lists.{pairs-length, texts-length}
 
 -- ---- the refusals behind the frame are 6, 7 and 8
@@ -88,33 +85,6 @@ faults kind d =
     (either (eqb kind 0x0F) _ _ (makes (λ c. fixed (F.Command c)) (read_command d) (sized (not (eqb (length d) 4)) (not (command_listed (get_or d 0 0) (get_or d 1 0) (word_of (get_or d 2 0) (get_or d 3 0)))) (command_of (get_or d 0 0) (get_or d 1 0) (word_of (get_or d 2 0) (get_or d 3 0)))))
     (refuses 6 (omega arith) (omega arith)))))))))))))))
 
--- ---- by the number
-
-number_same : (n : ℕ) → 6 ≤ n → n ≤ 8 → fault_number n ≡ n
-number_same n low high = by (eqb n 6) (eqb n 7) refl refl
-  where
-    by : (t u : Bool) → eqb n 6 ≡ t → eqb n 7 ≡ u → cond t 6 (cond u 7 8) ≡ n
-    by true u e f = sym (eqb-true n 6 e)
-    by false true e f = sym (eqb-true n 7 f)
-    by false false e f = omega (arith, eqb-false n 6 e, eqb-false n 7 f)
-
-module _ (kind : ℕ) (d : List ℕ) (fault : ℕ) (is : fault ≡ fault_of (message_of kind d)) where
-  pub faultless : fault ≡ 0 → (m : Message) × (message_of kind d ≡ accepted m)
-  faultless none = by (message_of kind d) refl is
-    where
-      by : (o : Outcome Message) → message_of kind d ≡ o → fault ≡ fault_of o → (m : Message) × (o ≡ accepted m)
-      by (refused n) q e = let w = faults kind d n q in let nothing : ⊥ = omega arith in absurd nothing
-      by (accepted m) q e = (m, refl)
-
-  pub faulty : (fault ≡ 0 → ⊥) → (message_of kind d ≡ refused fault) × (fault_number fault ≡ fault)
-  faulty some = by (message_of kind d) refl is
-    where
-      by : (o : Outcome Message) → message_of kind d ≡ o → fault ≡ fault_of o → (o ≡ refused fault) × (fault_number fault ≡ fault)
-      by (refused n) q e =
-          let w = faults kind d n q in
-          (ap refused (sym e), number_same fault (omega arith) (omega arith))
-      by (accepted m) q e = absurd (some e)
-
 -- ---- how many items a message has, by its type and its count of data bytes
 
 fixed_none : (f : Fixed) (n : ℕ) → items_in (fixed_frame f).kind n ≡ 0
@@ -130,7 +100,7 @@ fixed_none (F.ZoneRequest a b) n = refl
 fixed_none (F.LogEntry e) n = refl
 fixed_none (F.Command c) n = refl
 
-texts_in_lem : (d : List ℕ) → status_length (length d) ≡ true → length (texts (drop 1 d)) ≡ texts_in (length d)
+pub texts_in_lem : (d : List ℕ) → status_length (length d) ≡ true → length (texts (drop 1 d)) ≡ texts_in (length d)
 unfolding status_length
 texts_in_lem d listed = by (eqb (length d) 5) (eqb (length d) 17) (eqb (length d) 33) refl refl refl listed
   where
@@ -161,39 +131,3 @@ count_of_lem kind d =
   where
     at : (k : ℕ) → kind ≡ k → items_in k (length d) ≡ items_in kind (length d)
     at k is = ap (λ (x : ℕ). items_in x (length d)) (sym is)
-
--- a message without data has none
-pub plain_none : (kind n : ℕ) → is_plain kind ≡ true → 0 ≡ items_in kind n
-plain_none kind n =
-    or 0x05 refl (or 0x06 refl (or 0x0D refl (or 0x11 refl (or 0x13 refl (or 0x21 refl (or 0x22 refl (λ e. never e)))))))
-  where
-    or : (k : ℕ) {rest : Bool} → items_in k n ≡ 0 → (rest ≡ true → 0 ≡ items_in kind n) → cond (eqb kind k) true rest ≡ true → 0 ≡ items_in kind n
-    or k {rest} none later = by (eqb kind k) refl
-      where
-        by : (t : Bool) → eqb kind k ≡ t → cond t true rest ≡ true → 0 ≡ items_in kind n
-        by true e h = sym (ap (λ (x : ℕ). items_in x n) (eqb-true kind k e) ∙ none)
-        by false e h = later h
-
--- ---- what is answered by the number
-
-module _ (kind : ℕ) (d : List ℕ) (fault : ℕ) (is : fault ≡ fault_of (message_of kind d)) where
-  pub then_faulty : {A : Type 0} (g : Message → Outcome A) (n : ℕ) → (fault ≡ 0 → ⊥) → n ≡ fault_number fault → refused n ≡ and_then (message_of kind d) g
-  then_faulty g n some e =
-      let f = faulty kind d fault is some in
-      ap refused (e ∙ f.1) ∙ sym (ap (λ (o : Outcome Message). and_then o g) f.0)
-
-  pub then_faultless : {A : Type 0} (x : Outcome A) → fault ≡ 0 → x ≡ and_then (message_of kind d) (λ m. x)
-  then_faultless x none = sym (ap (λ (o : Outcome Message). and_then o (λ m. x)) (faultless kind d fault is none).1)
-
-  abbrev Packed : Outcome Message → ℕ
-  Packed o = packed (on_accepted (λ m. message_fields (counted m)) o)
-
-  pub packed_by_fault : (n : ℕ) → n ≡ items_in kind (length d) → packed_unless fault kind n ≡ Packed (message_of kind d)
-  packed_by_fault n count = by (eqb fault 0) refl
-    where
-      by : (t : Bool) → eqb fault 0 ≡ t → cond t (packed (accepted (byte kind ∷ byte n ∷ []))) fault ≡ Packed (message_of kind d)
-      by true e =
-          let m = faultless kind d fault is (eqb-true fault 0 e) in
-          ap₂ (λ (k c : ℕ). packed (accepted (byte k ∷ byte c ∷ []))) (sym (kind_of_lem kind d m.0 m.1)) (count ∙ sym (count_of_lem kind d m.0 m.1))
-          ∙ sym (ap Packed m.1)
-      by false e = sym (ap Packed (faulty kind d fault is (eqb-false fault 0 e)).0)

@@ -7,7 +7,8 @@ use lib.Dec.{eqb}
 use lib.ListN.{length}
 use borrow.Author.Tests.{eq-eqb, ne_eqb}
 use Rattle.answer.specs.Answer.{Outcome, refused, accepted, refuse_if, and_then, on_accepted, in_room, out_after}
-use Rattle.link.specs.Frame.{Frame, Header, header, read_frame, data_part}
+use Rattle.link.specs.Frame.{Frame, header, read_frame, data_part}
+use Rattle.link.specs.declared.frame.Header.{Header}
 use Rattle.link.proofs.Laws.Whole.{data_part_lem}
 use Rattle.message.specs.Typed.{write_counted}
 use Rattle.message.specs.declared.message.Message.{Message as Counted}
@@ -15,10 +16,10 @@ use Rattle.message.proofs.Laws.Checked.{was_accepted, was_refused}
 
 -- what is done of the frame that was read is done of its kind and its data part
 module _ (s : List ℕ) (o : Outcome Frame) (was_read : (f : Frame) → o ≡ accepted f → read_frame s ≡ accepted f) where
-  pub framed : {A : Type 0} (k n : ℕ) (g : ℕ → List ℕ → Outcome A) → accepted (record { kind = k; count = n }) ≡ on_accepted header o
-      → and_then o (λ f. g f.kind f.bytes) ≡ g k (data_part s n)
-  framed k n g e =
-      let w = was_accepted header o (record { kind = k; count = n }) e in
+  pub framed : {A : Type 0} (h : Header) (g : ℕ → List ℕ → Outcome A) → accepted h ≡ on_accepted header o
+      → and_then o (λ f. g f.kind f.bytes) ≡ g h.kind (data_part s h.count)
+  framed h g e =
+      let w = was_accepted header o h e in
       let f = w.0 in
       ap (λ (x : Outcome Frame). and_then x (λ f. g f.kind f.bytes)) w.1
       ∙ ap (g f.kind) (sym (data_part_lem s f (was_read f w.1)))
@@ -28,10 +29,10 @@ pub unframed : {A : Type 0} (o : Outcome Frame) (m : ℕ) (g : Frame → Outcome
 unframed o m g e = ap (λ (x : Outcome Frame). and_then x g) (was_refused header o m e)
 
 -- the data part of a frame that was read has as many bytes as its header says
-pub part_length : (s : List ℕ) (k n : ℕ) → accepted (record { kind = k; count = n }) ≡ on_accepted header (read_frame s) → length (data_part s n) ≡ n
-part_length s k n e =
-    let w = was_accepted header (read_frame s) (record { kind = k; count = n }) e in
-    let count : n ≡ length w.0.bytes = ap (λ (h : Header). h.count) w.2 in
+pub part_length : (s : List ℕ) (h : Header) → accepted h ≡ on_accepted header (read_frame s) → length (data_part s h.count) ≡ h.count
+part_length s h e =
+    let w = was_accepted header (read_frame s) h e in
+    let count : h.count ≡ length w.0.bytes = ap (λ (x : Header). x.count) w.2 in
     ap (λ (m : ℕ). length (data_part s m)) count ∙ ap length (data_part_lem s w.0 w.1) ∙ sym count
 
 -- what a call below leaves is what the call above leaves, where their outcomes are the same

@@ -1,124 +1,144 @@
--- The readers by type: what leads to each answer. Assumes nothing.
+-- What the reader makes of a type and data bytes that it accepts. Assumes nothing.
 use mathlib.Core.Path.{◌≡◌, refl, sym, ap, ◌∙◌}
-use mathlib.Core.Bool.{Bool, true, false, not, cond}
+use mathlib.Core.Bool.{Bool, true, false, cond, not, ◌||◌}
 use mathlib.Core.List.{List}
-use Prim.Native.Nat.{ℕ, zero, suc, ◌+◌, ◌*◌, ◌/◌, ◌%◌, ◌≤◌, ◌<◌}
-use native.Mathlib.Omega.{arith}
+use Prim.Native.Nat.{ℕ}
 use lib.Dec.{eqb}
-use lib.ListN.{length, get_or, drop, length-drop}
-use borrow.Author.Tests.{eq-eqb, ne_eqb, le-ltb}
+use lib.ListN.{length}
+use borrow.Author.Tests.{eqb-true, ne_eqb}
 use Rattle.answer.specs.Answer.{Outcome, refused, accepted, refuse_if, on_accepted}
-use Rattle.message.specs.Lists.{zone_status_type, events_type, message_status_type, zone_of, zones, zones_listed, texts}
-use Rattle.message.specs.Message.{Message, fixed, zone_status, message_status, status_length, read_plain, read_zone_status, read_message_status, with_data, message_of, counted}
-use Rattle.message.specs.Parts.{fault_of, is_plain, plain_fault}
+use Rattle.answer.proofs.Laws.Test.{not_accepted, same}
+use Rattle.message.specs.Command.{read_command}
+use Rattle.message.specs.Lists.{zone_status_type, events_type, message_status_type}
+use Rattle.message.specs.Log.{log_of}
+use Rattle.message.specs.Message.{Message, fixed, read_plain, message_of, with_data, counted}
+use Rattle.message.specs.Parts.{nothing, is_plain, items_in, Taken, command_in}
+use Rattle.message.specs.declared.command.Command.{Command}
+use Rattle.message.specs.declared.log.LogEntry.{LogEntry}
 use Rattle.message.specs.declared.message.Fixed.{Fixed}
 use Rattle.message.specs.declared.message.Fixed.TheVariants as F
+use Rattle.message.specs.declared.message.Message.{Message as Counted}
 use Rattle.message.specs.declared.message.Message.TheVariants as C
-use Rattle.message.proofs.Laws.Checked.{refuses, passes, behind_check, never}
-use Rattle.message.proofs.Laws.Lists.{pairs-length, texts-length}
+use Rattle.message.proofs.Laws.Accepts.{Every, every_log, every_command}
+use Rattle.message.proofs.Laws.Checked.{never}
+use Rattle.message.proofs.Laws.Item.{log_taken}
+use Rattle.message.proofs.Laws.Packed.{command_taken, command_carried}
 
--- zone status, once the length is right
-module _ (d : List ℕ) (even : length d % 2 ≡ 0) (some : length d ≡ 0 → ⊥) (few : length d ≤ 64) where
-  by_zones : read_zone_status d ≡ refuse_if (not (zones_listed d)) 8 (accepted (zone_status (zones d)))
-  unfolding read_zone_status
-  by_zones = simp (eq-eqb (length d % 2) 0 even, ne_eqb (length d) 0 some, le-ltb 64 (length d) few)
+module _ (kind : ℕ) (d : List ℕ) (taken : Taken (message_of kind d)) where
+  module _ (k : ℕ) (is : kind ≡ k) where
+    at_type : message_of k d ≡ accepted taken.0
+    at_type = ap (λ (x : ℕ). message_of x d) (sym is) ∙ taken.1
 
-  module _ {t : Bool} (is : t ≡ zones_listed d) where
-    pub zones-refused : t ≡ false → refused 8 ≡ on_accepted counted (read_zone_status d)
-    zones-refused e = ap (on_accepted counted) (refuses 8 (accepted (zone_status (zones d))) is e ∙ sym by_zones)
+    -- what holds of every message of a type holds of it
+    pub of_type : (P : Message → Type 0) → Every P (message_of k d) → P taken.0
+    of_type P every = every taken.0 at_type
 
-    pub zones-accepted : t ≡ true → accepted (C.ZoneStatus (length d / 2)) ≡ on_accepted counted (read_zone_status d)
-    zones-accepted e =
-        ap (λ (n : ℕ). accepted (C.ZoneStatus n)) (sym (pairs-length zone_of d))
-        ∙ ap (on_accepted counted) (passes 8 (accepted (zone_status (zones d))) is e ∙ sym by_zones)
+    -- so it is what every message of the type is
+    pub made : (x : Counted) → Every (λ m. x ≡ counted m) (message_of k d) → accepted x ≡ on_accepted counted (message_of kind d)
+    made x every = ap accepted (of_type (λ m. x ≡ counted m) every) ∙ sym (ap (on_accepted counted) taken.1)
 
-    pub zones_fault : t ≡ false → 8 ≡ fault_of (read_zone_status d)
-    zones_fault e = ap fault_of (refuses 8 (accepted (zone_status (zones d))) is e ∙ sym by_zones)
+  -- a log entry
+  module _ (is : kind ≡ 0x0E) where
+    pub log_length : length d ≡ 10
+    log_length = (log_taken d taken.0 (at_type 0x0E is)).0
 
-    pub zones_faultless : t ≡ true → 0 ≡ fault_of (read_zone_status d)
-    zones_faultless e = ap fault_of (passes 8 (accepted (zone_status (zones d))) is e ∙ sym by_zones)
+    pub log_made : (e : LogEntry) → e ≡ log_of d → accepted (C.Fixed (F.LogEntry e)) ≡ on_accepted counted (message_of kind d)
+    unfolding message_of with_data
+    log_made e r =
+        let l = log_taken d taken.0 (at_type 0x0E is) in
+        made 0x0E is (C.Fixed (F.LogEntry e))
+        (every_log (λ m. C.Fixed (F.LogEntry e) ≡ counted m) d (λ x q. ap (λ (y : LogEntry). C.Fixed (F.LogEntry y)) (r ∙ same (sym l.1 ∙ q))))
 
--- message status, once the length is right
-module _ (d : List ℕ) {t : Bool} (is : t ≡ status_length (length d)) (right : t ≡ true) where
-  pub status_some : 0 < length d
-  unfolding status_length
-  status_some = some (length d) (sym is ∙ right)
+  -- a command
+  module _ (is : kind ≡ 0x0F) where
+    pub command_length : length d ≡ 4
+    command_length = (command_carried d taken.0 (at_type 0x0F is)).0
+
+    pub command_made : (c : Command) → c ≡ command_in d → accepted (C.Fixed (F.Command c)) ≡ on_accepted counted (message_of kind d)
+    unfolding message_of with_data
+    command_made c r =
+        made 0x0F is (C.Fixed (F.Command c))
+        (every_command (λ m. C.Fixed (F.Command c) ≡ counted m) d (λ x q. ap (λ (y : Command). C.Fixed (F.Command y)) (r ∙ same (command_taken d x q).2)))
+
+  -- the last type
+  pub last_type : (kind ≡ 0x05 → ⊥) → (kind ≡ 0x06 → ⊥) → (kind ≡ 0x0D → ⊥) → (kind ≡ 0x11 → ⊥) → (kind ≡ 0x13 → ⊥) → (kind ≡ 0x21 → ⊥) → (kind ≡ 0x22 → ⊥)
+      → (kind ≡ 0x20 → ⊥) → (kind ≡ 0x15 → ⊥) → (kind ≡ zone_status_type → ⊥) → (kind ≡ events_type → ⊥) → (kind ≡ message_status_type → ⊥) → (kind ≡ 0x0E → ⊥)
+      → kind ≡ 0x0F
+  unfolding message_of with_data
+  last_type a b c e f g h i j k l m n =
+      by (eqb kind 0x0F) refl
+      (sym (simp (ne_eqb kind 0x05 a, ne_eqb kind 0x06 b, ne_eqb kind 0x0D c, ne_eqb kind 0x11 e, ne_eqb kind 0x13 f, ne_eqb kind 0x21 g, ne_eqb kind 0x22 h, ne_eqb kind 0x20 i, ne_eqb kind 0x15 j, ne_eqb kind zone_status_type k, ne_eqb kind events_type l, ne_eqb kind message_status_type m, ne_eqb kind 0x0E n) refl)
+      ∙ taken.1)
     where
-      some : (n : ℕ) → status_length n ≡ true → 0 < n
-      some zero e = never e
-      some (suc n) e = omega arith
+      by : (t : Bool) → eqb kind 0x0F ≡ t → cond t (on_accepted (λ c. fixed (F.Command c)) (read_command d)) (refused 6) ≡ accepted taken.0 → kind ≡ 0x0F
+      by true q r = eqb-true kind 0x0F q
+      by false q r = absurd (not_accepted 6 taken.0 r)
 
-  by_status : read_message_status d ≡ refuse_if (not (eqb (get_or d 0 0) 0)) 8 (accepted (message_status (texts (drop 1 d))))
-  unfolding read_message_status
-  by_status = sym (passes 7 (refuse_if (not (eqb (get_or d 0 0) 0)) 8 (accepted (message_status (texts (drop 1 d))))) is right)
+-- ---- the types without data
 
-  pub status_fault : (get_or d 0 0 ≡ 0 → ⊥) → 8 ≡ fault_of (read_message_status d)
-  status_fault h = ap fault_of (refuses 8 (accepted (message_status (texts (drop 1 d)))) refl (ne_eqb (get_or d 0 0) 0 h) ∙ sym by_status)
-
-  pub status_faultless : get_or d 0 0 ≡ 0 → 0 ≡ fault_of (read_message_status d)
-  status_faultless h = ap fault_of (passes 8 (accepted (message_status (texts (drop 1 d)))) refl (eq-eqb (get_or d 0 0) 0 h) ∙ sym by_status)
-
--- and where it is wrong
-pub status_wrong : (d : List ℕ) {t : Bool} → t ≡ status_length (length d) → t ≡ false → 7 ≡ fault_of (read_message_status d)
-unfolding read_message_status
-status_wrong d is wrong = ap fault_of (refuses 7 (refuse_if (not (eqb (get_or d 0 0) 0)) 8 (accepted (message_status (texts (drop 1 d))))) is wrong)
-
--- message status, at a right length
-pub status_read : (d : List ℕ) (n count : ℕ) → length d ≡ n → status_length n ≡ true → 4 * n ≡ count + 4
-    → refuse_if (not (eqb (get_or d 0 0) 0)) 8 (accepted (C.MessageStatus count)) ≡ on_accepted counted (read_message_status d)
-unfolding read_message_status
-status_read d n count e listed four =
-    let t = not (eqb (get_or d 0 0) 0) in
-    let shorter : length (drop 1 d) + 1 ≡ n = simp length-drop (omega arith) in
-    let size : count ≡ length (texts (drop 1 d)) = omega (arith, texts-length (drop 1 d)) in
-    ap (λ (k : ℕ). refuse_if t 8 (accepted (C.MessageStatus k))) size
-    ∙ sym (behind_check counted t 8 (accepted (message_status (texts (drop 1 d)))))
-    ∙ ap (on_accepted counted) (passes 7 (refuse_if t 8 (accepted (message_status (texts (drop 1 d))))) refl (ap status_length e ∙ listed))
-
--- the types without data, and all others
 module _ (kind : ℕ) (d : List ℕ) where
-  plain_fault_lem : (f : Fixed) → plain_fault d ≡ fault_of (read_plain f d)
+  abbrev checked : Outcome Message → Outcome (Unit {0})
+  checked = on_accepted nothing
+
+  plain_alike : (f g : Fixed) → checked (read_plain f d) ≡ checked (read_plain g d)
   unfolding read_plain
-  plain_fault_lem f = by (eqb (length d) 0)
+  plain_alike f g = by (eqb (length d) 0)
     where
-      by : (t : Bool) → cond t 0 7 ≡ fault_of (refuse_if (not t) 7 (accepted (fixed f)))
+      by : (t : Bool) → checked (refuse_if (not t) 7 (accepted (fixed f))) ≡ checked (refuse_if (not t) 7 (accepted (fixed g)))
       by true = refl
       by false = refl
 
-  is_plain_lem : (f : Fixed) (t rest : Bool) (later : Outcome Message) → (rest ≡ true → plain_fault d ≡ fault_of later)
-      → cond t true rest ≡ true → plain_fault d ≡ fault_of (cond t (read_plain f d) later)
-  is_plain_lem f true rest later k e = plain_fault_lem f
-  is_plain_lem f false rest later k e = k e
-
-  is_other : (f : Fixed) (t rest : Bool) (later : Outcome Message) → (rest ≡ false → later ≡ with_data kind d)
-      → cond t true rest ≡ false → cond t (read_plain f d) later ≡ with_data kind d
-  is_other f true rest later k e = never (sym e)
-  is_other f false rest later k e = k e
-
-  pub plain_type : is_plain kind ≡ true → plain_fault d ≡ fault_of (message_of kind d)
+  pub plain_type : is_plain kind ≡ true → checked (read_plain F.Acknowledge d) ≡ checked (message_of kind d)
   unfolding message_of
   plain_type =
-      is_plain_lem F.Acknowledge (eqb kind 0x05) _ _ (is_plain_lem F.NegativeAcknowledge (eqb kind 0x06) _ _ (is_plain_lem F.UploadEventLog (eqb kind 0x0D) _ _
-      (is_plain_lem F.RequestSystemInformation (eqb kind 0x11) _ _ (is_plain_lem F.RequestSystemStatus (eqb kind 0x13) _ _
-      (is_plain_lem F.Logout (eqb kind 0x21) _ _ (is_plain_lem F.RequestSystemEvents (eqb kind 0x22) _ _ (λ e. never e)))))))
+      by F.Acknowledge (eqb kind 0x05) _ _ _ _ _ _
+    where
+      by : (f : Fixed) (a b c e g h i : Bool) → ((((((a || b) || c) || e) || g) || h) || i) ≡ true
+          → checked (read_plain f d)
+          ≡ checked (cond a (read_plain F.Acknowledge d) (cond b (read_plain F.NegativeAcknowledge d) (cond c (read_plain F.UploadEventLog d)
+          (cond e (read_plain F.RequestSystemInformation d) (cond g (read_plain F.RequestSystemStatus d) (cond h (read_plain F.Logout d)
+          (cond i (read_plain F.RequestSystemEvents d) (with_data kind d))))))))
+      by f true b c e g h i q = plain_alike f F.Acknowledge
+      by f false true c e g h i q = plain_alike f F.NegativeAcknowledge
+      by f false false true e g h i q = plain_alike f F.UploadEventLog
+      by f false false false true g h i q = plain_alike f F.RequestSystemInformation
+      by f false false false false true h i q = plain_alike f F.RequestSystemStatus
+      by f false false false false false true i q = plain_alike f F.Logout
+      by f false false false false false false true q = plain_alike f F.RequestSystemEvents
+      by f false false false false false false false q = never q
 
   pub data_type : is_plain kind ≡ false → message_of kind d ≡ with_data kind d
   unfolding message_of
-  data_type =
-      is_other F.Acknowledge (eqb kind 0x05) _ _ (is_other F.NegativeAcknowledge (eqb kind 0x06) _ _ (is_other F.UploadEventLog (eqb kind 0x0D) _ _
-      (is_other F.RequestSystemInformation (eqb kind 0x11) _ _ (is_other F.RequestSystemStatus (eqb kind 0x13) _ _
-      (is_other F.Logout (eqb kind 0x21) _ _ (is_other F.RequestSystemEvents (eqb kind 0x22) _ _ (λ e. refl)))))))
+  data_type = by (eqb kind 0x05) _ _ _ _ _ _
+    where
+      by : (a b c e g h i : Bool) → ((((((a || b) || c) || e) || g) || h) || i) ≡ false
+          → cond a (read_plain F.Acknowledge d) (cond b (read_plain F.NegativeAcknowledge d) (cond c (read_plain F.UploadEventLog d)
+          (cond e (read_plain F.RequestSystemInformation d) (cond g (read_plain F.RequestSystemStatus d) (cond h (read_plain F.Logout d)
+          (cond i (read_plain F.RequestSystemEvents d) (with_data kind d)))))))
+          ≡ with_data kind d
+      by true b c e g h i q = never (sym q)
+      by false true c e g h i q = never (sym q)
+      by false false true e g h i q = never (sym q)
+      by false false false true g h i q = never (sym q)
+      by false false false false true h i q = never (sym q)
+      by false false false false false true i q = never (sym q)
+      by false false false false false false true q = never (sym q)
+      by false false false false false false false q = refl
 
--- the types that are not those tested
-module _ (kind : ℕ) (d : List ℕ) where
-  pub not_plain : (kind ≡ 0x05 → ⊥) → (kind ≡ 0x06 → ⊥) → (kind ≡ 0x0D → ⊥) → (kind ≡ 0x11 → ⊥) → (kind ≡ 0x13 → ⊥) → (kind ≡ 0x21 → ⊥) → (kind ≡ 0x22 → ⊥)
-      → message_of kind d ≡ with_data kind d
-  unfolding message_of
-  not_plain a b c f g h k =
-      simp (ne_eqb kind 0x05 a, ne_eqb kind 0x06 b, ne_eqb kind 0x0D c, ne_eqb kind 0x11 f, ne_eqb kind 0x13 g, ne_eqb kind 0x21 h, ne_eqb kind 0x22 k)
+  -- they have no items
+  pub plain_none : (n : ℕ) → is_plain kind ≡ true → 0 ≡ items_in kind n
+  plain_none n = by (eqb kind 0x05) (eqb kind 0x06) (eqb kind 0x0D) (eqb kind 0x11) (eqb kind 0x13) (eqb kind 0x21) (eqb kind 0x22) refl refl refl refl refl refl refl
+    where
+      none : (k : ℕ) → eqb kind k ≡ true → 0 ≡ items_in k n → 0 ≡ items_in kind n
+      none k e h = h ∙ ap (λ (x : ℕ). items_in x n) (sym (eqb-true kind k e))
 
-  pub unknown : (kind ≡ 0x20 → ⊥) → (kind ≡ 0x15 → ⊥) → (kind ≡ zone_status_type → ⊥) → (kind ≡ events_type → ⊥) → (kind ≡ message_status_type → ⊥) → (kind ≡ 0x0E → ⊥) → (kind ≡ 0x0F → ⊥)
-      → with_data kind d ≡ refused 6
-  unfolding with_data
-  unknown a b c f g h k =
-      simp (ne_eqb kind 0x20 a, ne_eqb kind 0x15 b, ne_eqb kind zone_status_type c, ne_eqb kind events_type f, ne_eqb kind message_status_type g, ne_eqb kind 0x0E h, ne_eqb kind 0x0F k)
+      by : (a b c e g h i : Bool) → eqb kind 0x05 ≡ a → eqb kind 0x06 ≡ b → eqb kind 0x0D ≡ c → eqb kind 0x11 ≡ e → eqb kind 0x13 ≡ g → eqb kind 0x21 ≡ h → eqb kind 0x22 ≡ i
+          → ((((((a || b) || c) || e) || g) || h) || i) ≡ true → 0 ≡ items_in kind n
+      by true b c e g h i p q r s t u v w = none 0x05 p refl
+      by false true c e g h i p q r s t u v w = none 0x06 q refl
+      by false false true e g h i p q r s t u v w = none 0x0D r refl
+      by false false false true g h i p q r s t u v w = none 0x11 s refl
+      by false false false false true h i p q r s t u v w = none 0x13 t refl
+      by false false false false false true i p q r s t u v w = none 0x21 u refl
+      by false false false false false false true p q r s t u v w = none 0x22 v refl
+      by false false false false false false false p q r s t u v w = never w

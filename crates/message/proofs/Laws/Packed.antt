@@ -1,5 +1,5 @@
 -- What is packed of a command, by its number and parameters. Assumes nothing.
-use mathlib.Core.Path.{◌≡◌, refl, sym, subst}
+use mathlib.Core.Path.{◌≡◌, refl, sym, subst, ◌∙◌}
 use mathlib.Core.Bool.{Bool, true, false, cond, not}
 use mathlib.Core.List.{List, [], ◌∷◌}
 use Prim.Native.Nat.{ℕ, zero, suc, ◌+◌, ◌-◌, ◌/◌, ◌%◌, ◌<◌, ◌≤◌}
@@ -9,10 +9,13 @@ use lib.ListN.{length, get_or}
 use borrow.Author.Tests.{eqb-true, ne_eqb, ltb-true, ltb-false}
 use Rattle.answer.specs.Answer.{accepted, refuse_if}
 use Rattle.answer.specs.Packed.{byte, word}
-use Rattle.answer.proofs.Laws.Test.{passed_not}
+use Rattle.answer.proofs.Laws.Test.{passed_not, on_accepted_lem}
 use Rattle.message.specs.Command.{duration_of, command_listed, command_of, checked_command, read_command}
 use Rattle.message.specs.Fields.{duration_unit, duration_count, command_fields}
 use Rattle.message.specs.Lists.{word_of}
+use Rattle.message.specs.Message.{Message, fixed, message_of, with_data}
+use Rattle.message.specs.Parts.{command_in}
+use Rattle.message.specs.declared.message.Fixed.TheVariants as F
 use Rattle.message.specs.declared.command.Command.{Command}
 use Rattle.message.specs.declared.command.Duration.TheVariants.{None, Seconds, Minutes, Hours}
 use Rattle.message.proofs.Laws.Encode.{command_cases}
@@ -72,3 +75,10 @@ command_taken d c e =
     let p = passed_not (eqb (length d) 4) 7 (refuse_if (not listed) 8 taken) c e in
     let q = passed_not listed 8 taken c p.1 in
     (eqb-true (length d) 4 p.0, q.0, q.1)
+
+pub command_carried : (d : List ℕ) (m : Message) → message_of 0x0F d ≡ accepted m → (length d ≡ 4) × (read_command d ≡ accepted (command_in d))
+unfolding message_of with_data
+command_carried d m e =
+    let r = on_accepted_lem (λ c. fixed (F.Command c)) (read_command d) m e in
+    let t = command_taken d r.0 r.1 in
+    (t.0, r.1 ∙ sym t.2)

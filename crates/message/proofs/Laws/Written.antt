@@ -1,46 +1,32 @@
--- A message written by the number of its refusal: what is answered and what is left in the lent output. Assumes nothing.
-use mathlib.Core.Path.{◌≡◌, refl, sym, ap}
-use mathlib.Core.List.{List, [], ◌∷◌}
+-- A message written behind its check: what is answered and what is left in the lent output. Assumes nothing.
+use mathlib.Core.Path.{◌≡◌, ap}
+use mathlib.Core.List.{List}
 use Prim.Native.Nat.{ℕ}
 use lib.ListN.{length}
-use Rattle.answer.specs.Answer.{Outcome, refused, on_accepted, in_room, out_after}
-use Rattle.answer.specs.Packed.{packed, word}
-use Rattle.answer.proofs.Laws.Packed.{of_lower}
+use Rattle.answer.specs.Answer.{Outcome, refused, accepted, and_then, on_accepted, in_room, out_after}
 use Rattle.link.specs.Frame.{write_frame}
-use Rattle.message.specs.Message.{message_of, write_message}
-use Rattle.message.specs.Parts.{fault_of, fault_number}
-use Rattle.message.proofs.Laws.Fault.{faulty, then_faulty, then_faultless}
+use Rattle.message.specs.Message.{Message, message_of, write_message}
+use Rattle.message.specs.Parts.{nothing}
+use Rattle.message.proofs.Laws.Checked.{was_accepted, was_refused}
 use Rattle.message.proofs.Laws.Framed.{leaves_same, leaves_nothing}
 
-module _ (kind : ℕ) (d : List ℕ) (fault : ℕ) (is : fault ≡ fault_of (message_of kind d)) (old : List ℕ) where
-  abbrev written : Outcome (List ℕ)
+module _ (kind : ℕ) (d old : List ℕ) where
+  abbrev pub written : Outcome (List ℕ)
   written = in_room (length old) (write_message kind d)
 
-  abbrev frame : Outcome (List ℕ)
-  frame = in_room (length old) (write_frame kind d)
+  abbrev behind : Outcome Message → Outcome (List ℕ)
+  behind o = in_room (length old) (and_then o (λ m. write_frame kind d))
 
-  -- the packed answer
-  abbrev packed_answer : ℕ
-  packed_answer = packed (on_accepted (λ b. word (length b) ∷ []) written)
+  -- where the check refuses
+  pub leaves_unchecked : (n : ℕ) → refused n ≡ on_accepted nothing (message_of kind d)
+      → (refused n ≡ on_accepted length written) × (old ≡ out_after written old)
+  unfolding write_message
+  leaves_unchecked n e = leaves_nothing written old n (ap behind (was_refused nothing (message_of kind d) n e))
 
-  -- where there is a fault
-  module _ (some : fault ≡ 0 → ⊥) where
-    pub leaves_faulty : (n : ℕ) → n ≡ fault_number fault → (refused n ≡ on_accepted length written) × (old ≡ out_after written old)
-    unfolding write_message
-    leaves_faulty n e =
-        leaves_nothing written old n (ap (in_room (length old)) (sym (then_faulty kind d fault is (λ m. write_frame kind d) n some e)))
-
-    pub packs_faulty : (fault ≡ packed_answer) × (old ≡ out_after written old)
-    packs_faulty =
-        let l = leaves_faulty fault (sym (faulty kind d fault is some).1) in
-        (of_lower {A = List ℕ} length (λ count. word count ∷ []) written (refused fault) fault refl l.0, l.1)
-
-  -- where there is none, by what the frame writer says
-  module _ (none : fault ≡ 0) (final : List ℕ) (w : Outcome ℕ) (a : w ≡ on_accepted length frame) (f : final ≡ out_after frame old) where
-    pub leaves_faultless : (w ≡ on_accepted length written) × (final ≡ out_after written old)
-    unfolding write_message
-    leaves_faultless =
-        leaves_same written frame old final w (ap (in_room (length old)) (sym (then_faultless kind d fault is (write_frame kind d) none))) a f
-
-    pub packs_faultless : (n : ℕ) → n ≡ packed (on_accepted (λ count. word count ∷ []) w) → (n ≡ packed_answer) × (final ≡ out_after written old)
-    packs_faultless n e = (of_lower {A = List ℕ} length (λ count. word count ∷ []) written w n e leaves_faultless.0, leaves_faultless.1)
+  -- where it does not, by what the frame writer says
+  pub leaves_checked : (final : List ℕ) (w : Outcome ℕ) → accepted tt ≡ on_accepted nothing (message_of kind d)
+      → w ≡ on_accepted length (in_room (length old) (write_frame kind d)) → final ≡ out_after (in_room (length old) (write_frame kind d)) old
+      → (w ≡ on_accepted length written) × (final ≡ out_after written old)
+  unfolding write_message
+  leaves_checked final w e =
+      leaves_same written (in_room (length old) (write_frame kind d)) old final w (ap behind (was_accepted nothing (message_of kind d) tt e).1)

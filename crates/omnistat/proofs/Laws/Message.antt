@@ -47,12 +47,6 @@ module _ {M : Type 0} (n : ℕ) (d : List ℕ) (m : M) where
   wrong_length h = simp (ne_eqb (length d) n h)
 
 -- a poll
-pub poll-length : (d : List ℕ) → (length d ≡ 2 → ⊥) → as_poll d ≡ refused 7
-poll-length [] h = refl
-poll-length (a ∷ []) h = refl
-poll-length (a ∷ b ∷ []) h = absurd (h refl)
-poll-length (a ∷ b ∷ e ∷ d) h = refl
-
 pub poll_of : (d : List ℕ) (t : Bool) → length d ≡ 2 → poll_allowed (get_or d 0 0) (get_or d 1 0) ≡ t
     → as_poll d ≡ refuse_if (not t) 8 (accepted (poll (get_or d 0 0) (get_or d 1 0)))
 poll_of [] t h e = absurd (omega arith)

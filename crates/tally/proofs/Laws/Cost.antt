@@ -1,21 +1,10 @@
 -- The value of a cost word: its power of ten and its bound. Assumes nothing.
-use mathlib.Core.Path.{◌≡◌, sym, ap}
+use mathlib.Core.Path.{◌≡◌}
 use Prim.Native.Nat.{ℕ, ◌%◌, ◌-◌, ◌^◌, ◌≤◌}
 use native.Mathlib.Nat.{pow-le-pow_right, mul-le-mul, mod-eq_of_lt}
 use native.Mathlib.Omega.{arith}
 use lib.Dec.{lit<}
 use Rattle.tally.specs.Cost.{millionths, power, decimals}
-
-pub power_at : {p : ℕ} (k : ℕ) → p ≡ k → 10 ^ (6 - k) ≡ power p
-unfolding power
-power_at k e = ap power (sym e)
-
-power_past : (p : ℕ) → 6 ≤ p → 1 ≡ power p
-unfolding power
-power_past p h = let e : 6 - p ≡ 0 = omega arith in ap (λ (n : ℕ). 10 ^ n) (sym e)
-
-pub power_other : (p : ℕ) → (p ≡ 0 → ⊥) → (p ≡ 1 → ⊥) → (p ≡ 2 → ⊥) → (p ≡ 3 → ⊥) → (p ≡ 4 → ⊥) → (p ≡ 5 → ⊥) → 1 ≡ power p
-power_other p n0 n1 n2 n3 n4 n5 = power_past p (omega arith)
 
 pub power_most : (p : ℕ) → power p ≤ 1000000
 unfolding power

@@ -1,13 +1,13 @@
 -- The map's registers: what a store leaves in each, and runs of registers taken one by one. Assumes nothing.
 use mathlib.Core.Path.{◌≡◌, refl, sym, ap, ◌∙◌}
-use mathlib.Core.Bool.{Bool, true, false, ◌&&◌}
-use mathlib.Core.List.{List, [], ◌∷◌}
+use mathlib.Core.Bool.{true, ◌&&◌}
+use mathlib.Core.List.{List, [], ◌∷◌, append_assoc}
 use Prim.Native.Nat.{ℕ, zero, suc, ◌+◌, ◌-◌, ◌<◌, ◌≤◌}
 use native.Mathlib.Nat.{add-zero, add-suc, suc-add, le_of_suc-le-suc, not-suc-le-zero}
 use native.Mathlib.Numerals.{add-one}
 use native.Mathlib.Omega.{arith}
 use lib.ListN.{length, get_or, take, drop, set, length-set, drop_of_length-le}
-use lib.Seq.{drop-cons, get_or-set_same, get_or-set_other}
+use lib.Seq.{paste, paste-zero, take-suc-set, drop-set-lt, drop-cons, get_or-set_same, get_or-set_other}
 use Rattle.thermostat.specs.Registers.{listed, settable}
 use Rattle.thermostat.specs.Map.{content, put, contents, run, stored}
 use Rattle.thermostat.specs.Step.{all_settable, all_listed}
@@ -66,9 +66,6 @@ up_one : (r i : ℕ) → suc (r + i) ≡ r + (i + 1)
 up_one r i = omega arith
 
 module _ (r : ℕ) (vs : List ℕ) (i : ℕ) where
-  pub settable-begun : all_settable r vs ≡ all_settable (r + 0) (drop 0 vs)
-  settable-begun = ap (λ (q : ℕ). all_settable q vs) (sym (add-zero r))
-
   pub settable_next : i < length vs
       → all_settable (r + i) (drop i vs) ≡ (settable (r + i) (get_or vs i 0) && all_settable (r + (i + 1)) (drop (i + 1) vs))
   unfolding all_settable
@@ -77,47 +74,32 @@ module _ (r : ℕ) (vs : List ℕ) (i : ℕ) where
       ∙ ap (λ (q : ℕ). settable (r + i) (get_or vs i 0) && all_settable q (drop (suc i) vs)) (up_one r i)
       ∙ ap (λ (n : ℕ). settable (r + i) (get_or vs i 0) && all_settable (r + (i + 1)) (drop n vs)) (sym (add-one i))
 
-  pub settable-ended : length vs ≤ i → all_settable (r + i) (drop i vs) ≡ true
+  pub settable_ended : length vs ≤ i → all_settable (r + i) (drop i vs) ≡ true
   unfolding all_settable
-  settable-ended h = ap (λ (l : List ℕ). all_settable (r + i) l) (drop_of_length-le vs h)
+  settable_ended h = ap (λ (l : List ℕ). all_settable (r + i) l) (drop_of_length-le vs h)
 
-module _ (m : List ℕ) (r : ℕ) (vs : List ℕ) where
-  pub stored-begun : stored m r vs ≡ stored m (r + 0) (drop 0 vs)
-  stored-begun = ap (λ (q : ℕ). stored m q vs) (sym (add-zero r))
+-- values stored one after the other are copied
+pub stored_paste : (m : List ℕ) (r : ℕ) (vs : List ℕ) → r + length vs ≤ length m → stored m r vs ≡ paste m r vs (length vs)
+unfolding stored put
+stored_paste m r [] h = paste-zero m r []
+stored_paste m r (v ∷ vs) h =
+    let l : r < length m = omega arith in
+    let n : r < r + suc (length vs) = omega arith in
+    let k : suc r + length vs ≤ length (set m r v) = omega (arith, length-set m r v) in
+    let e : suc r + length vs ≡ r + suc (length vs) = omega arith in
+    stored_paste (set m r v) (suc r) vs k
+    ∙ simp (take-suc-set m r v l, e, drop-set-lt (r + suc (length vs)) m r v n, append_assoc)
 
-  pub stored_next : (i : ℕ) → i < length vs
-      → stored m (r + i) (drop i vs) ≡ stored (set m (r + i) (get_or vs i 0)) (r + (i + 1)) (drop (i + 1) vs)
-  unfolding stored put
-  stored_next i h =
-      ap (λ (l : List ℕ). stored m (r + i) l) (drop-cons vs i 0 h)
-      ∙ ap (λ (q : ℕ). stored (set m (r + i) (get_or vs i 0)) q (drop (suc i) vs)) (up_one r i)
-      ∙ ap (λ (n : ℕ). stored (set m (r + i) (get_or vs i 0)) (r + (i + 1)) (drop n vs)) (sym (add-one i))
-
-  pub stored-ended : (i : ℕ) → length vs ≤ i → stored m (r + i) (drop i vs) ≡ m
-  unfolding stored
-  stored-ended i h = ap (λ (l : List ℕ). stored m (r + i) l) (drop_of_length-le vs h)
-
-module _ (r count i : ℕ) where
-  pub listed-begun : all_listed (run r count) ≡ all_listed (run (r + 0) (count - 0))
-  listed-begun = let k : count ≡ count - 0 = omega arith in ap (λ (q : ℕ). all_listed (run q count)) (sym (add-zero r)) ∙ ap (λ (n : ℕ). all_listed (run (r + 0) n)) k
-
-  pub listed_next : i < count → all_listed (run (r + i) (count - i)) ≡ (listed (r + i) && all_listed (run (r + (i + 1)) (count - (i + 1))))
+module _ (r past : ℕ) where
+  pub listed_next : r < past → all_listed (run r (past - r)) ≡ (listed r && all_listed (run (r + 1) (past - (r + 1))))
   unfolding all_listed run
   listed_next h =
-      let k : count - i ≡ suc (count - (i + 1)) = omega arith in
-      ap (λ (n : ℕ). all_listed (run (r + i) n)) k
-      ∙ ap (λ (q : ℕ). listed (r + i) && all_listed (run q (count - (i + 1)))) (up_one r i)
+      let k : past - r ≡ suc (past - (r + 1)) = omega arith in
+      ap (λ (n : ℕ). all_listed (run r n)) k ∙ ap (λ (q : ℕ). listed r && all_listed (run q (past - (r + 1)))) (sym (add-one r))
 
-  pub listed-ended : count ≤ i → all_listed (run (r + i) (count - i)) ≡ true
+  pub listed_ended : past ≤ r → all_listed (run r (past - r)) ≡ true
   unfolding all_listed run
-  listed-ended h = let k : count - i ≡ 0 = omega arith in ap (λ (n : ℕ). all_listed (run (r + i) n)) k
-
--- a test that fails, or holds, at one register
-pub one_fails : (a b : Bool) → a ≡ false → (a && b) ≡ false
-one_fails a b e = ap (λ (x : Bool). x && b) e
-
-pub one_holds : (a b : Bool) → a ≡ true → (a && b) ≡ b
-one_holds a b e = ap (λ (x : Bool). x && b) e
+  listed_ended h = let k : past - r ≡ 0 = omega arith in ap (λ (n : ℕ). all_listed (run r n)) k
 
 -- ---- the contents of a run are a part of the map
 

@@ -1,16 +1,16 @@
 -- The tables state what the paper states of every register, by one computed test; and what the tables' bytes decide. Assumes nothing.
-use mathlib.Core.Path.{◌≡◌, refl, sym, ap, ◌∙◌}
-use mathlib.Core.Bool.{Bool, true, false, not, ◌&&◌, ◌||◌, or-false}
+use mathlib.Core.Path.{◌≡◌, refl, sym, ◌∙◌}
+use mathlib.Core.Bool.{Bool, true, false, ◌&&◌, ◌||◌, or-false}
 use native.Mathlib.Omega.{arith}
-use mathlib.Core.List.{List, [], ◌∷◌}
+use mathlib.Core.List.{List, [], ◌∷◌, map}
 use Prim.Native.Nat.{ℕ, ◌<◌, ◌≤◌}
 use lib.Dec.{T, eqb, leb}
-use lib.ListN.{length, get_or}
+use lib.ListN.{length, get_or, get_or-map}
 use borrow.Author.Tests.{eqb-true, eqb-false, leb-true, leb-false, le-leb, lt-leb, ne_eqb}
 use Rattle.omnistat.specs.Register.{within}
-use Rattle.thermostat.specs.Registers.{Range, range, fahrenheit, is_in, in_any, listed, read_only, allowed, settable}
+use Rattle.thermostat.specs.Registers.{Range, range, fahrenheit, is_in, in_any, allowed}
 use Rattle.answer.specs.Bit.{bit}
-use Rattle.thermostat.specs.Parts.{takes, low, high, lowest, highest, writable_flag, low_of, high_of, States}
+use Rattle.thermostat.specs.Parts.{takes, low, high, lowest, highest, low_of, high_of}
 use Rattle.thermostat.proofs.Laws.Fahrenheit.{fahrenheit_bytes}
 use Rattle.answer.proofs.Laws.Table.{every, at, below, holds, both_left, both_right}
 
@@ -18,22 +18,25 @@ use Rattle.answer.proofs.Laws.Table.{every, at, below, holds, both_left, both_ri
 abbrev pub stated : (ℕ → ℕ) → List ℕ → Bool
 stated f bytes = eqb (length bytes) 256 && every (λ r x. eqb x (f r)) 0 bytes
 
-pub flag_set : (b : Bool) → eqb (bit b) 1 ≡ b
-flag_set true = refl
-flag_set false = refl
-
-pub states : (f : ℕ → ℕ) (bytes : List ℕ) → T (stated f bytes) → States f bytes
-states f bytes t =
-    record {
-      entry =
-          λ r h.
-          eqb-true (get_or bytes r 0) (f r)
-          (holds (eqb (get_or bytes r 0) (f r))
-          (at (λ k x. eqb x (f k)) bytes (both_right (eqb (length bytes) 256) (every (λ k x. eqb x (f k)) 0 bytes) t) r (inside r h)));
-    }
+pub states : (f : ℕ → ℕ) (bytes : List ℕ) → T (stated f bytes) → (r : ℕ) → r < 256 → get_or bytes r 0 ≡ f r
+states f bytes t r h =
+    eqb-true (get_or bytes r 0) (f r)
+    (holds (eqb (get_or bytes r 0) (f r))
+    (at (λ k x. eqb x (f k)) bytes (both_right (eqb (length bytes) 256) (every (λ k x. eqb x (f k)) 0 bytes) t) r inside))
   where
-    inside : (r : ℕ) → r < 256 → r < length bytes
-    inside r h = omega (arith, eqb-true (length bytes) 256 (holds (eqb (length bytes) 256) (both_left (eqb (length bytes) 256) (every (λ k x. eqb x (f k)) 0 bytes) t)))
+    inside : r < length bytes
+    inside = omega (arith, eqb-true (length bytes) 256 (holds (eqb (length bytes) 256) (both_left (eqb (length bytes) 256) (every (λ k x. eqb x (f k)) 0 bytes) t)))
+
+-- a table of truth values, by their bits
+same_bit : (a b : Bool) → bit a ≡ bit b → a ≡ b
+same_bit true true e = refl
+same_bit true false e = absurd (omega arith)
+same_bit false true e = absurd (omega arith)
+same_bit false false e = refl
+
+pub flags : (f : ℕ → Bool) (entries : List Bool) → T (stated (λ r. bit (f r)) (map bit entries)) → (r : ℕ) → r < 256 → get_or entries r false ≡ f r
+flags f entries t r h =
+    same_bit (get_or entries r false) (f r) (sym (get_or-map bit entries r false) ∙ states (λ k. bit (f k)) (map bit entries) t r h)
 
 -- one number of a list
 pub only_one : (n v : ℕ) → within n n v ≡ eqb v n
@@ -88,26 +91,3 @@ price_levels v = simp (only_one)
 pub bauds : (v : ℕ) → takes 132 v ≡ (eqb v 0 || (eqb v 1 || (eqb v 42 || (eqb v 54 || (eqb v 126 || false)))))
 unfolding allowed
 bauds v = simp (only_one)
-
--- what a byte of the table of writable registers decides
-flag_one : (b : Bool) → bit b ≡ 1 → b ≡ true
-flag_one true e = refl
-flag_one false e = absurd (omega arith)
-
-flag_other : (b : Bool) → (bit b ≡ 1 → ⊥) → b ≡ false
-flag_other true e = absurd (e refl)
-flag_other false e = refl
-
-module _ (bytes : List ℕ) (s : States writable_flag bytes) (r v : ℕ) (h : r < 256) where
-  pub not_settable : (get_or bytes r 0 ≡ 1 → ⊥) → settable r v ≡ false
-  not_settable n = ap (λ (b : Bool). b && takes r v) (flag_other (listed r && not (read_only r)) (λ e. n (s.entry r h ∙ e)))
-
-  pub settable_as_taken : get_or bytes r 0 ≡ 1 → settable r v ≡ takes r v
-  settable_as_taken e = ap (λ (b : Bool). b && takes r v) (flag_one (listed r && not (read_only r)) (sym (s.entry r h) ∙ e))
-
--- the last number of each list
-pub last_level : (v : ℕ) → (v ≡ 0 → ⊥) → (v ≡ 1 → ⊥) → (v ≡ 2 → ⊥) → takes 70 v ≡ eqb v 4
-last_level v a b c = price_levels v ∙ simp (ne_eqb v 0 a, ne_eqb v 1 b, ne_eqb v 2 c) (or-false (eqb v 4))
-
-pub last_baud : (v : ℕ) → (v ≡ 0 → ⊥) → (v ≡ 1 → ⊥) → (v ≡ 42 → ⊥) → (v ≡ 54 → ⊥) → takes 132 v ≡ eqb v 126
-last_baud v a b c d = bauds v ∙ simp (ne_eqb v 0 a, ne_eqb v 1 b, ne_eqb v 42 c, ne_eqb v 54 d) (or-false (eqb v 126))

@@ -1,6 +1,6 @@
 -- A step's reply is always accepted by the writer and fits; what a message that was read says of its registers. Assumes nothing.
 use mathlib.Core.Path.{◌≡◌, refl, sym, ap, ◌∙◌, subst}
-use mathlib.Core.Bool.{Bool, true, false, not, cond, and-false}
+use mathlib.Core.Bool.{Bool, true, false, not, cond, ◌&&◌}
 use mathlib.Core.List.{List, []}
 use Prim.Native.Nat.{ℕ, ◌+◌, ◌-◌, ◌<◌, ◌≤◌}
 use native.Mathlib.Omega.{arith}
@@ -8,7 +8,7 @@ use lib.ListN.{length, take, drop, length-drop, length-append}
 use lib.Seq.{length-take-le}
 use native.Mathlib.Nat.{add-sub_cancel_left}
 use lib.Dec.{eqb, leb}
-use borrow.Author.Tests.{le-leb, lt-leb, leb-true, eq-eqb, ne_eqb, lt-ltb, le-ltb}
+use borrow.Author.Tests.{le-leb, leb-true, eq-eqb, ne_eqb, lt-ltb, le-ltb}
 use Rattle.answer.specs.Answer.{Outcome, refused, accepted, refuse_if, on_accepted, in_room, out_after}
 use Rattle.answer.proofs.Laws.Output.{with_room}
 use Rattle.omnistat.specs.declared.group.Group.{Group}
@@ -18,7 +18,7 @@ use Rattle.omnistat.specs.Register.{within, is_text, run_allowed, poll_allowed}
 use Rattle.omnistat.specs.Frame.{directed, first_of}
 use Rattle.omnistat.specs.Message.{Reply, numbered, poll, set_from, poll_group, acknowledge, negative, data_from, group, as_message, as_message_by, body_of}
 use Rattle.omnistat.specs.Text.{text_type, text_allowed}
-use Rattle.omnistat.specs.Omnistat.{Message, counted, text, Addressed, addressed_counted, read, write, sent}
+use Rattle.omnistat.specs.Omnistat.{Message, counted, text, addressed_counted, read, write, sent}
 use Rattle.answer.proofs.Laws.Test.{passed_not}
 use Rattle.omnistat.proofs.Laws.Message.{and_parts, within_both}
 use Rattle.omnistat.proofs.Laws.Heard.{message_read_lem}
@@ -30,7 +30,7 @@ use Rattle.thermostat.specs.Map.{contents, run}
 use Rattle.thermostat.specs.Texts.{held_text, store_allowed}
 use Rattle.thermostat.proofs.Laws.Map.{contents-run}
 use Rattle.thermostat.proofs.Laws.Texts.{held_fits}
-use Rattle.thermostat.specs.Step.{is_for, all_settable, all_listed, registers_of, register_reply, text_reply, reply_to, changed, texts_changed, reply_bytes, sent_by, after, Done, done, step, map_of, texts_of, sent_of}
+use Rattle.thermostat.specs.Step.{is_for, all_settable, all_listed, registers_of, register_reply, text_reply, reply_to, reply_bytes, sent_by, after, Done, done, step, map_of, texts_of, sent_of}
 
 -- ---- either way of a test
 pub chosen : {A : Type 0} (b : Bool) (x y : A) → b ≡ true → cond b x y ≡ x
@@ -229,6 +229,26 @@ module _ (own first : ℕ) where
         → Sends old (sent_by own first reply) w out
     answered e n = sent_as (reply_bytes own reply) (answered_by reply e n)
 
+    -- the same by one test
+    pub silent : (is_for own first && not (eqb first 0)) ≡ false → Sends old (sent_by own first reply) (accepted 0) old
+    unfolding sent_by
+    silent e = sent_as [] (go (is_for own first) (eqb first 0) e) (accepted 0) old (refl, refl)
+      where
+        go : (p q : Bool) → (p && not q) ≡ false → cond p (cond q [] (reply_bytes own reply)) [] ≡ []
+        go true true e = refl
+        go true false e = cc
+        go false q e = refl
+
+    pub answers : (is_for own first && not (eqb first 0)) ≡ true → (w : Outcome ℕ) (out : List ℕ) → Sends old (reply_bytes own reply) w out
+        → Sends old (sent_by own first reply) w out
+    unfolding sent_by
+    answers e = sent_as (reply_bytes own reply) (go (is_for own first) (eqb first 0) e)
+      where
+        go : (p q : Bool) → (p && not q) ≡ true → cond p (cond q [] (reply_bytes own reply)) [] ≡ reply_bytes own reply
+        go true true e = cc
+        go true false e = refl
+        go false q e = cc
+
   -- a reply that goes by another name
   pub sent_same : (q reply : Message Host) (old : List ℕ) → q ≡ reply → (w : Outcome ℕ) (out : List ℕ) → Sends old (sent_by own first reply) w out → Sends old (sent_by own first q) w out
   sent_same q reply old e w out p = subst (λ (x : Message Host). Sends old (sent_by own first x) w out) (sym e) p
@@ -268,13 +288,9 @@ module _ (own : ℕ) (m texts s : List ℕ) (room : ℕ) where
       wrong_texts n = simp (le-ltb room 65 a, eq-eqb (length m) 256 b, ne_eqb (length texts) 610 n)
 
       module _ (c : length texts ≡ 610) where
-        pub address_too_low : own < 1 → step own m texts s room ≡ refused 8
+        pub wrong_address : within 1 127 own ≡ false → step own m texts s room ≡ refused 8
         unfolding step
-        address_too_low l = simp (le-ltb room 65 a, eq-eqb (length m) 256 b, eq-eqb (length texts) 610 c, lt-leb 1 own l)
-
-        pub address_too_high : 127 < own → step own m texts s room ≡ refused 8
-        unfolding step
-        address_too_high l = simp (le-ltb room 65 a, eq-eqb (length m) 256 b, eq-eqb (length texts) 610 c, lt-leb own 127 l, and-false)
+        wrong_address e = simp (le-ltb room 65 a, eq-eqb (length m) 256 b, eq-eqb (length texts) 610 c, e)
 
         module _ (l : 1 ≤ own) (h : own ≤ 127) where
           pub store_refused : store_allowed texts ≡ false → step own m texts s room ≡ refused 8
@@ -298,14 +314,11 @@ module _ (m texts old : List ℕ) where
   pub when_refused : (o : Outcome Done) (n : ℕ) → o ≡ refused n → Promise o (refused n) m texts old
   when_refused o n e = promised_as o (refused n) (refused n) m texts old e (refl, (refl, (refl, refl)))
 
-  module _ (own : ℕ) (s : List ℕ) where
-    pub when_read_refused : (n : ℕ) → read Thermostat s ≡ refused n → Promise (on_accepted (done own m texts) (read Thermostat s)) (refused n) m texts old
-    when_read_refused n e =
-        when_refused (on_accepted (done own m texts) (read Thermostat s)) n (ap (λ (o : Outcome (Addressed (Message Thermostat))). on_accepted (done own m texts) o) e)
+-- ---- the map and the store whole, as the code works on them
 
-    pub when_done : (q : Addressed (Message Thermostat)) (w : Outcome ℕ) (map store out : List ℕ) → read Thermostat s ≡ accepted q
-        → map ≡ after own q.address (changed m q.message) m → store ≡ after own q.address (texts_changed texts q.message) texts
-        → Sends old (sent_by own q.address (reply_to m texts q.message)) w out → Promise (on_accepted (done own m texts) (read Thermostat s)) w map store out
-    when_done q w map store out e b c p =
-        promised_as (on_accepted (done own m texts) (read Thermostat s)) (accepted (done own m texts q)) w map store out
-        (ap (λ (o : Outcome (Addressed (Message Thermostat))). on_accepted (done own m texts) o) e) (p.0, (b, (c, p.1)))
+module _ (m texts old m' texts' : List ℕ) (e : m' ≡ m) (f : texts' ≡ texts) where
+  pub promised_in : (o : Outcome Done) (w : Outcome ℕ) (map store out : List ℕ) → Promise m' texts' old o w map store out → Promise m texts old o w map store out
+  promised_in o w map store out p = (p.0, (p.1.0 ∙ ap (map_of o) e, (p.1.1.0 ∙ ap (texts_of o) f, p.1.1.1)))
+
+  pub refused_in : (o : Outcome Done) (n : ℕ) → o ≡ refused n → Promise m texts old o (refused n) m' texts' old
+  refused_in o n r = promised_in o (refused n) m' texts' old (when_refused m' texts' old o n r)

@@ -35,23 +35,16 @@ module _ (texts : List ℕ) where
   abbrev pub allowed_from : ℕ → Bool
   allowed_from r = all_hold_text texts (run r (last_text + 1 - r))
 
-  module _ (r : ℕ) (h : r ≤ last_text) where
-    allowed_next : allowed_from r ≡ (holds_text texts r && allowed_from (r + 1))
-    unfolding all_hold_text run
-    allowed_next =
-        let k : last_text + 1 - r ≡ suc (last_text + 1 - (r + 1)) = omega arith in
-        ap (λ (n : ℕ). all_hold_text texts (run r n)) k
-        ∙ ap (λ (q : ℕ). holds_text texts r && all_hold_text texts (run q (last_text + 1 - (r + 1)))) (sym (add-one r))
-
-    pub allowed_fails : holds_text texts r ≡ false → allowed_from r ≡ false
-    allowed_fails e = allowed_next ∙ ap (λ (b : Bool). b && allowed_from (r + 1)) e
-
-    pub allowed_holds : holds_text texts r ≡ true → allowed_from r ≡ allowed_from (r + 1)
-    allowed_holds e = allowed_next ∙ ap (λ (b : Bool). b && allowed_from (r + 1)) e
-
-  pub allowed-ended : (r : ℕ) → last_text < r → allowed_from r ≡ true
+  pub allowed_next : (r : ℕ) → r ≤ last_text → allowed_from r ≡ (holds_text texts r && allowed_from (r + 1))
   unfolding all_hold_text run
-  allowed-ended r h = let k : last_text + 1 - r ≡ 0 = omega arith in ap (λ (n : ℕ). all_hold_text texts (run r n)) k
+  allowed_next r h =
+      let k : last_text + 1 - r ≡ suc (last_text + 1 - (r + 1)) = omega arith in
+      ap (λ (n : ℕ). all_hold_text texts (run r n)) k
+      ∙ ap (λ (q : ℕ). holds_text texts r && all_hold_text texts (run q (last_text + 1 - (r + 1)))) (sym (add-one r))
+
+  pub allowed_ended : (r : ℕ) → last_text < r → allowed_from r ≡ true
+  unfolding all_hold_text run
+  allowed_ended r h = let k : last_text + 1 - r ≡ 0 = omega arith in ap (λ (n : ℕ). all_hold_text texts (run r n)) k
 
   -- the texts of a run, each of them
   first_or_later : (start r : ℕ) → start ≤ r → holds_text texts start ≡ true → (start < r → holds_text texts r ≡ true) → holds_text texts r ≡ true

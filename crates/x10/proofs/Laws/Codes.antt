@@ -1,8 +1,9 @@
--- The code list is a bijection of the 16 codes, by a test over the list, and digits say where each code stands, by another. Assumes nothing.
+-- The code list is a bijection of the 16 codes, by a test over the list, and a second list says where each code stands, by another. Assumes nothing.
 use mathlib.Core.Path.{◌≡◌, refl, sym, ap, ◌∙◌}
 use mathlib.Core.Bool.{Bool, true, false, not, cond, ◌&&◌}
 use mathlib.Core.List.{List, [], ◌∷◌}
-use Prim.Native.Nat.{ℕ, ◌<◌, ◌*◌, ◌/◌, ◌%◌, ◌^◌}
+use Prim.Native.Nat.{ℕ, ◌<◌}
+use lib.ListN.{get_or}
 use lib.Dec.{T, eqb, ltb, eqb→eq, ltb→lt}
 use borrow.Author.Tests.{ne_eqb, eqb-true, eqb-false, not-true}
 use Rattle.answer.specs.Answer.{refused, accepted}
@@ -16,12 +17,12 @@ use Rattle.answer.proofs.Laws.Table.{both_left, both_right, holds as is_true, at
 rule : ℕ → ℕ → Bool
 rule i x = ltb x 16 && (eqb (index_of x) i && (ltb (index_of i) 16 && eqb (code_at (index_of i)) i))
 
--- the digits that say where each code stands, that of code 0 last
-abbrev pub digits : ℕ
-digits = 0x917FB35D806EA24C
+-- where each code stands
+abbrev pub places : List ℕ
+places = 12 ∷ 4 ∷ 2 ∷ 10 ∷ 14 ∷ 6 ∷ 0 ∷ 8 ∷ 13 ∷ 5 ∷ 3 ∷ 11 ∷ 15 ∷ 7 ∷ 1 ∷ 9 ∷ []
 
 right : ℕ → Bool
-right i = eqb (digits / 2 ^ (i * 4) % 16) (index_of i)
+right i = eqb (get_or places i 0) (index_of i)
 
 module _ (i : ℕ) (h : i < 16) where
   holds : T (rule i (code_at i))
@@ -51,9 +52,9 @@ module _ (i : ℕ) (h : i < 16) where
   pub code_at_index : code_at (index_of i) ≡ i
   code_at_index = eqb→eq (code_at (index_of i)) i (both_right (ltb (index_of i) 16) (eqb (code_at (index_of i)) i) back)
 
-  pub place_of : digits / 2 ^ (i * 4) % 16 ≡ index_of i
+  pub place_of : get_or places i 0 ≡ index_of i
   unfolding right index_of
-  place_of = eqb→eq (digits / 2 ^ (i * 4) % 16) (index_of i) (below right 16 tt i h)
+  place_of = eqb→eq (get_or places i 0) (index_of i) (below right 16 tt i h)
 
 -- each function is found by its code
 pub function_found : (f : Function) → function_of (function_code f) ≡ accepted f

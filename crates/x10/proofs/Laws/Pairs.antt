@@ -1,14 +1,14 @@
 -- Reading places: one place more, and one pair more. Assumes nothing.
 use mathlib.Core.Path.{◌≡◌, refl, sym, ap, ◌∙◌}
-use mathlib.Core.Bool.{Bool, true, false, not, ◌&&◌, and-true, and_assoc}
+use mathlib.Core.Bool.{Bool, true, false, not, ◌&&◌, and_assoc}
 use mathlib.Core.List.{List, ◌∷◌}
 use Prim.Native.Nat.{ℕ, suc, ◌+◌, ◌*◌, ◌≤◌, ◌<◌}
 use native.Mathlib.Numerals.{add-one, add-two}
 use native.Mathlib.Omega.{arith}
 use lib.Bits.{bit_or, or_lt, or_add_and, and_le_r, and_le_l}
 use lib.Dec.{ltb}
-use lib.ListN.{length, get_or}
-use lib.Seq.{slice, slice_empty, slice-cons}
+use lib.ListN.{length, get_or, drop}
+use lib.Seq.{slice, slice_empty, slice-cons, drop-cons}
 use borrow.Author.Tests.{lt-ltb, le-ltb, ltb-true, ltb-false, eq-eqb, ne_eqb}
 use Rattle.answer.specs.Answer.{Outcome, refused, accepted, on_accepted, refuse_if}
 use Rattle.x10.specs.Places.{are_places, unpaired, number_from, spelled}
@@ -26,17 +26,17 @@ or_below x y = go (ltb x 2) (ltb y 2) refl refl
         let h : 2 ≤ x = ltb-false x 2 ex in
         le-ltb (bit_or x y) 2 (omega (arith, or_add_and x y, and_le_r x y))
 
+-- one place more
+pub next_place : (l : List ℕ) (i seen : ℕ) → i < length l
+    → ltb seen 2 && are_places (drop i l) ≡ ltb (bit_or seen (get_or l i 0)) 2 && are_places (drop (i + 1) l)
+next_place l i seen h =
+    ap (λ (ps : List ℕ). ltb seen 2 && are_places ps) (drop-cons l i 0 h ∙ ap (λ (j : ℕ). get_or l i 0 ∷ drop j l) (sym (add-one i)))
+    ∙ sym (and_assoc (ltb seen 2) (ltb (get_or l i 0) 2) (are_places (drop (i + 1) l)))
+    ∙ ap (λ (b : Bool). b && are_places (drop (i + 1) l)) (sym (or_below seen (get_or l i 0)))
+
 module _ (l : List ℕ) (i t : ℕ) where
   one : i < t → t ≤ length l → slice i t l ≡ get_or l i 0 ∷ slice (i + 1) t l
   one h k = slice-cons i t l 0 h k ∙ ap (λ (j : ℕ). get_or l i 0 ∷ slice j t l) (sym (add-one i))
-
-  -- one place more
-  pub next_place : (seen : ℕ) → i < t → t ≤ length l
-      → ltb seen 2 && are_places (slice i t l) ≡ ltb (bit_or seen (get_or l i 0)) 2 && are_places (slice (i + 1) t l)
-  next_place seen h k =
-      ap (λ (ps : List ℕ). ltb seen 2 && are_places ps) (one h k)
-      ∙ sym (and_assoc (ltb seen 2) (ltb (get_or l i 0) 2) (are_places (slice (i + 1) t l)))
-      ∙ ap (λ (b : Bool). b && are_places (slice (i + 1) t l)) (sym (or_below seen (get_or l i 0)))
 
   two : i + 1 < t → t ≤ length l → slice i t l ≡ get_or l i 0 ∷ get_or l (i + 1) 0 ∷ slice (i + 2) t l
   two h k =
@@ -44,10 +44,6 @@ module _ (l : List ℕ) (i t : ℕ) where
       ∙ ap (λ (ps : List ℕ). get_or l i 0 ∷ ps)
       (slice-cons (i + 1) t l 0 h k
       ∙ ap (λ (j : ℕ). get_or l (i + 1) 0 ∷ slice j t l) (ap suc (add-one i) ∙ sym (add-two i)))
-
--- no place more
-pub no_place : (t seen : ℕ) (l : List ℕ) → ltb seen 2 && are_places (slice t t l) ≡ ltb seen 2
-no_place t seen l = ap (λ (ps : List ℕ). ltb seen 2 && are_places ps) (slice_empty t l) ∙ and-true (ltb seen 2)
 
 -- what pairs spell after what earlier pairs spelled
 abbrev pub spelled_from : ℕ → List ℕ → Outcome ℕ

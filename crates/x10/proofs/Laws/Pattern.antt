@@ -8,32 +8,12 @@ use lib.Dec.{eqb}
 use lib.ListN.{length, get_or}
 use lib.Seq.{slice}
 use borrow.Author.Tests.{lt-ltb, le-ltb, eq-eqb, ne_eqb}
-use Rattle.answer.specs.Answer.{Outcome, refused, accepted, on_accepted}
-use Rattle.answer.specs.Packed.{packed}
+use Rattle.answer.specs.Answer.{refused, accepted}
 use Rattle.x10.specs.declared.Function.{Function}
 use Rattle.x10.specs.Codes.{index_of, extended1, function_of}
 use Rattle.x10.specs.Places.{are_places, start_code, starts_with, spelled}
-use Rattle.x10.specs.Answers.{fields}
-use Rattle.x10.specs.Parts.{refused_key, refused_rest}
+use Rattle.x10.specs.Parts.{refused_key, refused_rest, by_codes}
 use Rattle.x10.specs.Pattern.{Message, unit, function, extended, ending, read_rest, read_function, read_key, read}
-
--- what C is answered
-abbrev pub answered : Outcome Message → ℕ
-answered o = packed (on_accepted fields o)
-
--- the start code, place by place
-pub start_test : (l : List ℕ) → 4 ≤ length l
-    → starts_with start_code l ≡ eqb (get_or l 0 0) 1 && (eqb (get_or l 1 0) 1 && (eqb (get_or l 2 0) 1 && (eqb (get_or l 3 0) 0 && true)))
-start_test [] h = absurd (omega arith)
-start_test (a ∷ []) h = absurd (omega arith)
-start_test (a ∷ b ∷ []) h = absurd (omega arith)
-start_test (a ∷ b ∷ c ∷ []) h = absurd (omega arith)
-start_test (a ∷ b ∷ c ∷ d ∷ l) h = refl
-
-pub start_last : (l : List ℕ) → 4 ≤ length l → get_or l 0 0 ≡ 1 → get_or l 1 0 ≡ 1 → get_or l 2 0 ≡ 1 → starts_with start_code l ≡ eqb (get_or l 3 0) 0
-start_last l h e0 e1 e2 =
-    start_test l h
-    ∙ simp (eq-eqb (get_or l 0 0) 1 e0, eq-eqb (get_or l 1 0) 1 e1, eq-eqb (get_or l 2 0) 1 e2) (and-true (eqb (get_or l 3 0) 0))
 
 module _ (ps : List ℕ) (m : Message) (n : ℕ) where
   pub ends : length ps ≤ n → ending n ps m ≡ accepted m
@@ -46,14 +26,6 @@ module _ (ps : List ℕ) where
   pub read_short : length ps < 22 → read ps ≡ refused 1
   unfolding read
   read_short h = simp (lt-ltb (length ps) 22 h)
-
-  pub read_wrong : 22 ≤ length ps → are_places (slice 0 22 ps) ≡ false → read ps ≡ refused 8
-  unfolding read
-  read_wrong h e = simp (le-ltb (length ps) 22 h, e)
-
-  pub read_start : 22 ≤ length ps → are_places (slice 0 22 ps) ≡ true → starts_with start_code ps ≡ false → read ps ≡ refused 2
-  unfolding read
-  read_start h e s = simp (le-ltb (length ps) 22 h, e, s)
 
   pub read_on : 22 ≤ length ps → are_places (slice 0 22 ps) ≡ true → starts_with start_code ps ≡ true → read ps ≡ read_key ps
   unfolding read
@@ -83,25 +55,30 @@ module _ (ps : List ℕ) where
       d16_wrong e = simp (eh, ek, e)
 
       module _ (d : ℕ) (ed : spelled (slice 20 22 ps) ≡ accepted d) where
-        pub key_unit : d ≡ 0 → read_key ps ≡ ending 22 ps (unit (index_of h) (index_of k + 1))
-        unfolding read_key
-        key_unit e = simp (eh, ek, ed, eq-eqb d 0 e)
+        pub key_read : read_key ps ≡ by_codes ps h k d
+        unfolding read_key by_codes
+        key_read = simp (eh, ek, ed)
 
-        pub unit-accepted : d ≡ 0 → length ps ≤ 22 → read_key ps ≡ accepted (unit (index_of h) (index_of k + 1))
-        unit-accepted e l = key_unit e ∙ ends ps (unit (index_of h) (index_of k + 1)) 22 l
+  module _ (h k d : ℕ) where
+    pub codes_unit : d ≡ 0 → by_codes ps h k d ≡ ending 22 ps (unit (index_of h) (index_of k + 1))
+    unfolding by_codes
+    codes_unit e = simp (eq-eqb d 0 e)
 
-        pub key_function : (d ≡ 0 → ⊥) → read_key ps ≡ read_function ps h k
-        unfolding read_key
-        key_function e = simp (eh, ek, ed, ne_eqb d 0 e)
+    pub unit-accepted : d ≡ 0 → length ps ≤ 22 → by_codes ps h k d ≡ accepted (unit (index_of h) (index_of k + 1))
+    unit-accepted e l = codes_unit e ∙ ends ps (unit (index_of h) (index_of k + 1)) 22 l
+
+    pub codes_function : (d ≡ 0 → ⊥) → by_codes ps h k d ≡ read_function ps h k
+    unfolding by_codes
+    codes_function e = simp (ne_eqb d 0 e)
 
   module _ (h k : ℕ) where
     pub function-extended : k ≡ extended1 → read_function ps h k ≡ read_rest ps h
     unfolding read_function
     function-extended e = simp (eq-eqb k extended1 e)
 
-    pub function_unknown : (k ≡ extended1 → ⊥) → function_of k ≡ refused 6 → read_function ps h k ≡ refused 6
+    pub function_unknown : (r : ℕ) → (k ≡ extended1 → ⊥) → function_of k ≡ refused r → read_function ps h k ≡ refused r
     unfolding read_function
-    function_unknown n e = simp (ne_eqb k extended1 n, e)
+    function_unknown r n e = simp (ne_eqb k extended1 n, e)
 
     pub function_known : (f : Function) → (k ≡ extended1 → ⊥) → function_of k ≡ accepted f
         → read_function ps h k ≡ ending 22 ps (function (index_of h) f)
@@ -116,10 +93,6 @@ module _ (ps : List ℕ) where
     pub rest_short : length ps < 62 → read_rest ps h ≡ refused 1
     unfolding read_rest
     rest_short l = simp (lt-ltb (length ps) 62 l)
-
-    pub rest_wrong : 62 ≤ length ps → are_places (slice 22 62 ps) ≡ false → read_rest ps h ≡ refused 8
-    unfolding read_rest
-    rest_wrong l v = simp (le-ltb (length ps) 62 l, v)
 
     module _ (l : 62 ≤ length ps) where
       pub rest_key_wrong : spelled (slice 22 30 ps) ≡ refused 5 → read_rest ps h ≡ refused_rest ps
@@ -143,8 +116,3 @@ module _ (ps : List ℕ) where
 
             pub rest-accepted : length ps ≤ 62 → read_rest ps h ≡ accepted (extended (index_of h) (index_of k + 1) d c)
             rest-accepted t = rest_read ∙ ends ps (extended (index_of h) (index_of k + 1) d c) 62 t
-
-  -- where all are places, a wrong complement is 5
-  pub rest-refused : are_places (slice 22 62 ps) ≡ true → refused_rest ps ≡ refused 5
-  unfolding refused_rest
-  rest-refused v = simp v

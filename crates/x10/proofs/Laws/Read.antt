@@ -69,10 +69,6 @@ module _ (l : List ℕ) where
       → (d : ℕ) → spelled (slice 20 22 l) ≡ accepted d → read l ≡ read_key l
   begun n s h eh k ek d ed = read_on l n (read-places n s h eh k ek d ed) s
 
-  -- behind 22 places, all 62 are places where the rest are
-  pub rest_alone : 62 ≤ length l → are_places (slice 0 22 l) ≡ true → are_places (slice 0 62 l) ≡ are_places (slice 22 62 l)
-  rest_alone n e = parted l 0 22 22 62 refl (omega arith) n ∙ ap (λ (b : Bool). b && are_places (slice 22 62 l)) e
-
   pub rest-places : 62 ≤ length l → (k : ℕ) → spelled (slice 22 30 l) ≡ accepted k → (d : ℕ) → spelled (slice 30 46 l) ≡ accepted d → (c : ℕ)
       → spelled (slice 46 62 l) ≡ accepted c → are_places (slice 22 62 l) ≡ true
   rest-places n k ek d ed c ec =

@@ -16,7 +16,7 @@ use Rattle.x10.specs.Pattern.{Message, Bytes, unit, function, extended, read_fun
 use Rattle.x10.proofs.Laws.Bits.{bits-places, paired-places, spelled-bits}
 use Rattle.x10.proofs.Laws.Codes.{index_of_code, code_small, function_found, code_below, code_plain}
 use Rattle.answer.proofs.Laws.Test.{passed, same, then_accepted}
-use Rattle.x10.proofs.Laws.Pattern.{read_on, unit-accepted, key_function, function-accepted, function-extended, rest-accepted}
+use Rattle.x10.proofs.Laws.Pattern.{read_on, key_read, unit-accepted, codes_function, function-accepted, function-extended, rest-accepted}
 
 places-append : (xs ys : List ℕ) → are_places xs ≡ true → are_places ys ≡ true → are_places (xs ++ ys) ≡ true
 places-append [] ys ex ey = ey
@@ -66,10 +66,10 @@ module _ (h k d : ℕ) (rest : List ℕ) (hh : h < 16) (hk : k < 16) (hd : d < 2
   begun_d16 = spelled-bits 1 d hd
 
   begun-unit : d ≡ 0 → length (standard h k d ++ rest) ≤ 22 → read (standard h k d ++ rest) ≡ accepted (unit (index_of h) (index_of k + 1))
-  begun-unit e l = read-begun ∙ unit-accepted (standard h k d ++ rest) h begun_house k begun_key d begun_d16 e l
+  begun-unit e l = read-begun ∙ key_read (standard h k d ++ rest) h begun_house k begun_key d begun_d16 ∙ unit-accepted (standard h k d ++ rest) h k d e l
 
   begun-function : (d ≡ 0 → ⊥) → read (standard h k d ++ rest) ≡ read_function (standard h k d ++ rest) h k
-  begun-function n = read-begun ∙ key_function (standard h k d ++ rest) h begun_house k begun_key d begun_d16 n
+  begun-function n = read-begun ∙ key_read (standard h k d ++ rest) h begun_house k begun_key d begun_d16 ∙ codes_function (standard h k d ++ rest) h k d n
 
 read-unit : (h k : ℕ) → h < 16 → k < 16 → read (standard h k 0) ≡ accepted (unit (index_of h) (index_of k + 1))
 unfolding standard

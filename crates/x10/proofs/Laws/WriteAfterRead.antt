@@ -17,7 +17,7 @@ use Rattle.x10.specs.Pattern.{Message, unit, function, extended, ending, read_re
 use Rattle.x10.proofs.Laws.Bits.{and_left, and_right, part_back}
 use Rattle.x10.proofs.Laws.Codes.{code_at_index, index_small, found_code}
 use Rattle.answer.proofs.Laws.Test.{passed, same, then_accepted}
-use Rattle.x10.proofs.Laws.Write.{house_listed, unit-listed, unit_written, function_written, extended_written}
+use Rattle.x10.proofs.Laws.Write.{house_listed, unit_some, unit_written, function_written, extended_written}
 
 -- a part of a list in two
 split : (a b t : ℕ) (l : List ℕ) → a ≤ b → b ≤ t → t ≤ length l → slice a t l ≡ slice a b l ++ slice b t l
@@ -55,7 +55,7 @@ unit_again : (k : ℕ) → k < 16 → unit_code (index_of k + 1) ≡ accepted k
 unit_again k h =
     let i : index_of k < 16 = index_small k h in
     let e : index_of k + 1 - 1 ≡ index_of k = omega arith in
-    unit-listed (index_of k + 1) (omega arith) (omega arith) ∙ ap accepted (ap code_at e ∙ code_at_index k h)
+    unit_some (index_of k + 1) (omega arith) ∙ house_listed (index_of k + 1 - 1) (omega arith) ∙ ap accepted (ap code_at e ∙ code_at_index k h)
 
 -- 22 places by their parts
 module _ (ps : List ℕ) (long : 22 ≤ length ps) (start : take 4 ps ≡ start_code) (h k d : ℕ)

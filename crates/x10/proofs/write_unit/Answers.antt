@@ -1,41 +1,28 @@
-use mathlib.Core.Path.{sym, ap₂, ◌∙◌}
-use Prim.Native.Nat.{ℕ, ◌-◌}
-use Rattle.answer.specs.Answer.{accepted}
+use mathlib.Core.Path.{sym}
 use Rattle.x10.specs.declared.Function.TheVariants.{On}
-use Rattle.x10.specs.Codes.{code_at}
-use Rattle.x10.specs.Pattern.{unit, standard, write}
-use Rattle.x10.proofs.Laws.Write.{house_past, house_listed, unit_zero, unit_past, unit-listed, unit_no_house, unit_no_unit, unit_written, refuses, hands_on}
+use Rattle.x10.specs.Pattern.{unit, write}
+use Rattle.x10.proofs.Laws.Write.{handed_on, unit_no_house, unit_no_unit, unit_written, refuses, hands_on}
 use Rattle.x10.proofs.write_unit.Goals as goal
 
-pub returns-then-house-gt-LAST_HOUSE : goal.returns-then-house-gt-LAST_HOUSE
-returns-then-house-gt-LAST_HOUSE c =
+pub returns-in_err-code : goal.returns-in_err-code
+returns-in_err-code c =
     let a = c.args in
-    let w = refuses a.out.now (write (unit a.house a.unit)) 8
-    (unit_no_house a.house a.unit 0 0 On (house_past a.house c.if-house-gt-LAST_HOUSE.true)) in
+    let e = handed_on c.from_residual.result _ c.from_residual.ensures.1 c.in_err-code.ensures in
+    let w = refuses a.out.now (write (unit a.house a.unit)) e.0 (unit_no_house a.house a.unit 0 0 On e.0 e.1) _ e.2 in
     record { result_value = w.0; out_after = w.1 }
 
-pub returns-then-unit-eq0 : goal.returns-then-unit-eq0
-returns-then-unit-eq0 c =
+pub returns-in_err-key : goal.returns-in_err-key
+returns-in_err-key c =
     let a = c.args in
-    let w = refuses a.out.now (write (unit a.house a.unit)) 8
-    (unit_no_unit a.house a.unit 0 0 On (code_at a.house) (house_listed a.house c.if-house-gt-LAST_HOUSE.false)
-    (unit_zero a.unit c.if-unit-eq0.true)) in
-    record { result_value = w.0; out_after = w.1 }
-
-pub returns-then-unit-gt-LAST_UNIT : goal.returns-then-unit-gt-LAST_UNIT
-returns-then-unit-gt-LAST_UNIT c =
-    let a = c.args in
-    let w = refuses a.out.now (write (unit a.house a.unit)) 8
-    (unit_no_unit a.house a.unit 0 0 On (code_at a.house) (house_listed a.house c.if-house-gt-LAST_HOUSE.false)
-    (unit_past a.unit c.if-unit-eq0.false c.if-unit-gt-LAST_UNIT.true)) in
+    let e = handed_on c.from_residual-in_err-key.result _ c.from_residual-in_err-key.ensures.1 c.in_err-key.ensures in
+    let w = refuses a.out.now (write (unit a.house a.unit)) e.0
+    (unit_no_unit a.house a.unit 0 0 On _ (sym c.in_ok-code.ensures) e.0 e.1) _ e.2 in
     record { result_value = w.0; out_after = w.1 }
 
 pub returns : goal.returns
 returns c =
     let a = c.args in
     let w = hands_on a.out.now (write (unit a.house a.unit)) _
-    (unit_written a.house a.unit 0 0 On (code_at a.house) (house_listed a.house c.if-house-gt-LAST_HOUSE.false)
-    (code_at (a.unit - 1)) (unit-listed a.unit c.if-unit-eq0.false c.if-unit-gt-LAST_UNIT.false)
-    ∙ ap₂ (λ (k m : ℕ). accepted (standard k m 0)) (sym c.code_at.ensures) (sym c.code_at-2.ensures))
+    (unit_written a.house a.unit 0 0 On _ (sym c.in_ok-code.ensures) _ (sym c.in_ok-key.ensures))
     _ _ (c.write_standard.ensures.result_value, c.write_standard.ensures.out_after) in
     record { result_value = w.0; out_after = w.1 }

@@ -15,8 +15,8 @@ pub returns : goal.returns
 returns c =
     let byte = c.args.byte in
     let bound = c.ranges.byte.fits in
-    ap₂ (λ (n first : ℕ). bit_xor (bit_xor first (left 6 n)) (left 7 n)) c.wide-n.ensures
-    (c.by_parity.ensures ∙ ap (λ (n : ℕ). cond (parity 64 n) 0x5000 0x9001) c.wide-n.ensures)
+    ap₂ (λ (n first : ℕ). bit_xor (bit_xor first (left 6 n)) (left 7 n)) c.from-n.ensures
+    (c.by_parity.ensures ∙ ap (λ (n : ℕ). cond (parity 64 n) 0x5000 0x9001) c.from-n.ensures)
     ∙ byte_turned byte bound
     ∙ crc_two 1 byte (lit< tt) bound
 

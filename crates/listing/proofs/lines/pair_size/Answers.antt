@@ -11,16 +11,9 @@ overflow_add-result c =
       arith,
       c.run_size.ensures,
       c.frame_size.ensures,
-      run_bound a.from (c.offset_of-at.result - a.from) (omega arith) (omega arith),
-      frame_line c.offset_of-at.result c.count_of.result c.kind_of.result (omega arith) (omega arith) (omega arith),
+      run_bound a.from (c.from-at.result - a.from) (omega arith) (omega arith),
+      frame_line a.frame.offset a.frame.count a.frame.kind (omega arith) (omega arith) (omega arith),
     )
 
 pub returns : goal.returns
-returns c =
-    let a = c.args in
-    omega (
-      arith,
-      c.run_size.ensures,
-      c.frame_size.ensures,
-      pair_size a.from a.frame _ _ _ c.offset_of-at.ensures c.count_of.ensures c.kind_of.ensures,
-    )
+returns c = let a = c.args in omega (arith, c.run_size.ensures, c.frame_size.ensures, pair_size a.from a.frame _ c.from-at.ensures)

@@ -4,6 +4,7 @@ use lib.Seq.{length-take-le}
 use mathlib.Core.List.{List, ◌++◌}
 use mathlib.Core.Path.{◌≡◌, sym, ap, subst, ◌∙◌}
 use native.Mathlib.Omega.{arith}
+use Rattle.listing.specs.declared.place.FrameAt.{FrameAt}
 use Rattle.listing.specs.Parts.{Settles, last_end}
 use Rattle.listing.specs.State.{settled}
 use Rattle.listing.proofs.Laws.Output.{behind-all}
@@ -180,7 +181,7 @@ returns c =
       settles = λ from h.
           let g = first.ensures.settles from h in
           let last = last_within from (take n kept) (base + at) g.inside in
-          subst (λ (es : List ℕ). Settles (u ++ p) base from es (at + second.result.at)) both
+          subst (λ (es : List FrameAt). Settles (u ++ p) base from es (at + second.result.at)) both
           (on_in_piece u p ahead.result ahead.ensures.within _ is at past g
           (subst (λ (s : List ℕ). Settles s (base + at) (last_end from (take n kept)) (take second.result.count part) second.result.at) slice (second.ensures.settles _ last)));
       counted = kept_count kept part _ n second.result.count first.ensures.counted second.ensures.counted;

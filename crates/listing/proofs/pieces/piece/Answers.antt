@@ -1,13 +1,15 @@
-use Prim.Native.Nat.{◌+◌, ◌≤◌}
-use borrow.Author.Tests.{not-false}
+use Prim.Native.Nat.{ℕ, ◌+◌, ◌≤◌}
+use borrow.Author.Tests.{not-false, eqb-true}
+use lib.Dec.{eqb}
 use lib.ListN.{length}
-use mathlib.Core.Bool.{true}
+use mathlib.Core.Bool.{Bool, true}
+use mathlib.Core.List.{List, []}
 use mathlib.Core.Path.{◌≡◌, sym, ap, ◌∙◌}
 use native.Mathlib.Omega.{arith}
 use Rattle.listing.proofs.Laws.Closing.{call-refused, call-accepted}
 use Rattle.listing.proofs.Laws.Output.{nothing}
-use Rattle.listing.proofs.Laws.Taken.{unread_few, came_most, no_state, above_most, piece_waiting, waits, waiting_fits}
-use Rattle.listing.specs.State.{state_of, is_state}
+use Rattle.listing.proofs.Laws.Taken.{unread_few, unread_came, came_most, no_state, above_most, piece_waiting, waits, waiting_fits, none_unread, piece-noise}
+use Rattle.listing.specs.State.{State, state_of, is_state}
 use Rattle.listing.proofs.pieces.piece.Goals as goal
 
 pub returns-then-not-is_state : goal.returns-then-not-is_state
@@ -17,37 +19,33 @@ returns-then-not-is_state c =
     (no_state (length a.out.now) a.state.now a.bytes.now (sym c.is_state.ensures ∙ c.if-not-is_state.true)) in
     record { result_value = w.0; out_after = w.1.0; state_after = w.1.1 }
 
-pub came-requires : goal.came-requires
-came-requires c =
+pub read-st-requires : goal.read-st-requires
+read-st-requires c =
     sym c.is_state.ensures ∙ not-false _ c.if-not-is_state.false-raw
 
-pub overflow_sub-came : goal.overflow_sub-came
-overflow_sub-came c =
+pub overflow_sub-st : goal.overflow_sub-st
+overflow_sub-st c =
     let a = c.args in
     let b = c.args.state.now in
     let known : is_state b ≡ true = sym c.is_state.ensures ∙ c.if-not-is_state.false in
-    omega (arith, came_most b known, c.came.ensures)
+    omega (arith, came_most b known, ap (λ (st : State). st.came) c.read-st.ensures)
 
-pub returns-then-came-bytes : goal.returns-then-came-bytes
-returns-then-came-bytes c =
+pub returns-then-st-bytes : goal.returns-then-st-bytes
+returns-then-st-bytes c =
     let a = c.args in
     let b = c.args.state.now in
     let known : is_state b ≡ true = sym c.is_state.ensures ∙ c.if-not-is_state.false in
     let w = call-refused a.out.now b
-    (above_most (length a.out.now) b a.bytes.now known (omega (arith, came_most b known, c.came.ensures, c.if-came-bytes.true))) in
+    (above_most (length a.out.now) b a.bytes.now known (omega (arith, came_most b known, ap (λ (st : State). st.came) c.read-st.ensures, c.if-st-bytes.true))) in
     record { result_value = w.0; out_after = w.1.0; state_after = w.1.1 }
-
-pub unread-requires : goal.unread-requires
-unread-requires c =
-    sym c.is_state.ensures ∙ not-false _ c.if-not-is_state.false-raw
 
 pub is_waiting-requires : goal.is_waiting-requires
 is_waiting-requires c =
     let a = c.args in
     let b = c.args.state.now in
     let known : is_state b ≡ true = sym c.is_state.ensures ∙ c.if-not-is_state.false in
-    let most : (state_of b).came + length a.bytes.now ≤ 4096 = omega (arith, came_most b known, c.came.ensures, c.if-came-bytes.false) in record {
-      unread_len_bound = omega (arith, unread_few b known, ap length c.unread.ensures);
+    let most : (state_of b).came + length a.bytes.now ≤ 4096 = omega (arith, came_most b known, ap (λ (st : State). st.came) c.read-st.ensures, c.if-st-bytes.false) in record {
+      unread_len_bound = omega (arith, unread_few b known, ap (λ (st : State). length st.unread) c.read-st.ensures);
       more_bound = omega arith;
     }
 
@@ -56,8 +54,8 @@ append-requires c =
     let a = c.args in
     let b = c.args.state.now in
     let known : is_state b ≡ true = sym c.is_state.ensures ∙ c.if-not-is_state.false in
-    let most : (state_of b).came + length a.bytes.now ≤ 4096 = omega (arith, came_most b known, c.came.ensures, c.if-came-bytes.false) in
-    let stops = waits b a.bytes.now known c.unread.result.now c.unread.ensures (c.is_waiting.ensures c.if-is_waiting.true) in record {
+    let most : (state_of b).came + length a.bytes.now ≤ 4096 = omega (arith, came_most b known, ap (λ (st : State). st.came) c.read-st.ensures, c.if-st-bytes.false) in
+    let stops = waits b a.bytes.now known c.read-st.result.unread.now (ap (λ (st : State). st.unread) c.read-st.ensures) (c.is_waiting.ensures c.if-is_waiting.true) in record {
       state_value = known;
       piece_bound = most;
       piece_len_bound = waiting_fits b a.bytes.now known stops;
@@ -68,28 +66,56 @@ returns-then-is_waiting c =
     let a = c.args in
     let b = c.args.state.now in
     let known : is_state b ≡ true = sym c.is_state.ensures ∙ c.if-not-is_state.false in
-    let most : (state_of b).came + length a.bytes.now ≤ 4096 = omega (arith, came_most b known, c.came.ensures, c.if-came-bytes.false) in
-    let stops = waits b a.bytes.now known c.unread.result.now c.unread.ensures (c.is_waiting.ensures c.if-is_waiting.true) in
+    let most : (state_of b).came + length a.bytes.now ≤ 4096 = omega (arith, came_most b known, ap (λ (st : State). st.came) c.read-st.ensures, c.if-st-bytes.false) in
+    let stops = waits b a.bytes.now known c.read-st.result.unread.now (ap (λ (st : State). st.unread) c.read-st.ensures) (c.is_waiting.ensures c.if-is_waiting.true) in
     let w = call-accepted b (piece_waiting (length a.out.now) b a.bytes.now known most stops) (nothing a.out.now 0 (omega arith)) c.append.ensures in
     record { result_value = w.0; out_after = w.1.0; state_after = w.1.1 }
 
-pub piece_short-requires : goal.piece_short-requires
-piece_short-requires c =
+-- nothing is unread
+none : (b : List ℕ) (u : List ℕ) → u ≡ (state_of b).unread → (answer : Bool) → answer ≡ eqb (length u) 0 → answer ≡ true → (state_of b).unread ≡ []
+none b u is answer e so = none_unread b u is (eqb-true (length u) 0 (sym e ∙ so))
+
+pub count_noise-requires : goal.count_noise-requires
+count_noise-requires c =
     let a = c.args in
     let b = c.args.state.now in
-    let known : is_state b ≡ true = sym c.is_state.ensures ∙ c.if-not-is_state.false in
-    let most : (state_of b).came + length a.bytes.now ≤ 4096 = omega (arith, came_most b known, c.came.ensures, c.if-came-bytes.false) in record {
+    let known : is_state b ≡ true = sym c.is_state.ensures ∙ c.if-not-is_state.false in record {
       state_value = known;
-      bytes_bound = most;
-      bytes_len_bound = c.if-bytes-le-SHORT_PIECE.true;
+      count_bound = omega (arith, came_most b known, ap (λ (st : State). st.came) c.read-st.ensures, c.if-st-bytes.false);
+      state_value_2 = none b _ (ap (λ (st : State). st.unread) c.read-st.ensures) _ c.is_empty.ensures c.if-is_empty.true;
     }
 
-pub piece_any-requires : goal.piece_any-requires
-piece_any-requires c =
+pub returns-then-is_noise : goal.returns-then-is_noise
+returns-then-is_noise c =
     let a = c.args in
     let b = c.args.state.now in
     let known : is_state b ≡ true = sym c.is_state.ensures ∙ c.if-not-is_state.false in
-    let most : (state_of b).came + length a.bytes.now ≤ 4096 = omega (arith, came_most b known, c.came.ensures, c.if-came-bytes.false) in record {
+    let most : (state_of b).came + length a.bytes.now ≤ 4096 = omega (arith, came_most b known, ap (λ (st : State). st.came) c.read-st.ensures, c.if-st-bytes.false) in
+    let w = call-accepted b
+    (piece-noise (length a.out.now) b a.bytes.now known most (none b _ (ap (λ (st : State). st.unread) c.read-st.ensures) _ c.is_empty.ensures c.if-is_empty.true) (c.is_noise.ensures c.if-is_noise.true))
+    (nothing a.out.now 0 (omega arith))
+    c.count_noise.ensures in
+    record { result_value = w.0; out_after = w.1.0; state_after = w.1.1 }
+
+pub piece_in-requires : goal.piece_in-requires
+piece_in-requires c =
+    let a = c.args in
+    let b = c.args.state.now in
+    let known : is_state b ≡ true = sym c.is_state.ensures ∙ c.if-not-is_state.false in record {
+      state_value = known;
+      bytes_bound = omega (arith, came_most b known, ap (λ (st : State). st.came) c.read-st.ensures, c.if-st-bytes.false);
+      bytes_len_bound = omega (arith, c.if-bytes-le-SHORT_PIECE.true, unread_few b known);
+      frames_bound = omega arith;
+    }
+
+pub piece_in-requires-2 : goal.piece_in-requires-2
+piece_in-requires-2 c =
+    let a = c.args in
+    let b = c.args.state.now in
+    let known : is_state b ≡ true = sym c.is_state.ensures ∙ c.if-not-is_state.false in
+    let most : (state_of b).came + length a.bytes.now ≤ 4096 = omega (arith, came_most b known, ap (λ (st : State). st.came) c.read-st.ensures, c.if-st-bytes.false) in record {
       state_value = known;
       bytes_bound = most;
+      bytes_len_bound = omega (arith, unread_came b known);
+      frames_bound = omega arith;
     }

@@ -12,9 +12,8 @@ frame-noise-requires t c = (
 
 pub noise-frame-requires : goal.noise-frame-requires
 noise-frame-requires t c =
-    let some = c.if-next-eq0.false in
-    let next = c.next_frame-next.ensures in
-    let w = inside (next.some some) in (
-      omega (arith, c.decreases, w.most, w.least, (next.before some).forward),
-      (c.requires.bytes_len_bound, (c.requires.bytes_len_bound_2, (c.requires.limit_in_bounds, (found_quiet c.requires.found_2 (next.before some), next.some some)))),
+    let next = c.in-Some.ensures in
+    let w = inside next.1 in (
+      omega (arith, c.decreases, w.most, w.least, next.0.forward),
+      (c.requires.bytes_len_bound, (c.requires.bytes_len_bound_2, (c.requires.limit_in_bounds, (found_quiet c.requires.found_2 next.0, next.1)))),
     )

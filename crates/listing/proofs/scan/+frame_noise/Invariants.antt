@@ -1,10 +1,9 @@
 -- The bytes that remain fall: twice their count for `frame`, and one more for `noise`, which hands over where it stands.
 use Rattle.std.proofs.Common.{◌+◌, ◌-◌, ◌*◌, length}
-use Rattle.listing.specs.Parts.{offset_in}
 use Rattle.listing.proofs.scan.+frame_noise.Given as goal
 
 abbrev pub decreases-frame : goal.decreases-frame
-decreases-frame l = (length l.bytes.now - offset_in l.first) * 2
+decreases-frame l = (length l.bytes.now - l.first.offset) * 2
 
 abbrev pub decreases-noise : goal.decreases-noise
 decreases-noise l = (length l.bytes.now - l.from) * 2 + 1

@@ -7,13 +7,14 @@ use mathlib.Core.Path.{◌≡◌, refl, sym, ap, subst, subst⁻¹, ◌∙◌}
 use native.Mathlib.Omega.{arith}
 use Rattle.listing.proofs.Laws.FramesText.{last_within}
 use Rattle.listing.proofs.Laws.Settling.{ends_none, ends_on, part-kept}
+use Rattle.listing.specs.declared.place.FrameAt.{FrameAt}
 use Rattle.listing.specs.Parts.{last_end, Settles, Ends}
 use Rattle.listing.specs.State.{settled}
 use Rattle.listing.proofs.settle.end.Invariants.{Going}
 use Rattle.listing.proofs.settle.end.Goals as goal
 
 -- from one place to the next, with what is handed on and put back
-module _ {s : List ℕ} {base : ℕ} {found₀ found : List ℕ} {at n : ℕ} (g : Going s base found₀ found at n) (in-it : at < length s) where
+module _ {s : List ℕ} {base : ℕ} {found₀ found : List FrameAt} {at n : ℕ} (g : Going s base found₀ found at n) (in-it : at < length s) where
   abbrev behind : List ℕ
   behind = take (length s - (at + 1)) (drop (at + 1) s)
 
@@ -23,7 +24,7 @@ module _ {s : List ℕ} {base : ℕ} {found₀ found : List ℕ} {at n : ℕ} (g
   behind-long : length behind ≡ length s - (at + 1)
   behind-long = ap length behind-all ∙ length-drop (at + 1) s
 
-  abbrev lent : List ℕ
+  abbrev lent : List FrameAt
   lent = take (length found - n) (drop n found)
 
   lent-long : length lent ≡ length found - n
@@ -32,10 +33,10 @@ module _ {s : List ℕ} {base : ℕ} {found₀ found : List ℕ} {at n : ℕ} (g
   enough : length behind < 5 * (length lent + 1)
   enough = omega (arith, behind-long, lent-long, (g.ends 0 (omega arith)).few, length-take-le n found g.counted, g.counted, g.long)
 
-  module _ (part : List ℕ) (more count : ℕ) (as_long : length part ≡ length lent)
+  module _ (part : List FrameAt) (more count : ℕ) (as_long : length part ≡ length lent)
       (settles : (from : ℕ) → from ≤ base + (at + 1) → Settles behind (base + (at + 1)) from (take count part) more)
       (counted : count ≤ length part) (stopped : more < length s - (at + 1) → settled (drop more behind) ≡ false) where
-    abbrev found' : List ℕ
+    abbrev found' : List FrameAt
     found' = take n found ++ (part ++ drop (length found - n) (drop n found))
 
     found-long : length found' ≡ length found
@@ -71,7 +72,7 @@ module _ {s : List ℕ} {base : ℕ} {found₀ found : List ℕ} {at n : ℕ} (g
             let before : last_end from es ≤ base + (at + 1) = omega (arith, last_within from es (base + at) (g.ends from b).inside) in
             let k : Settles (drop (at + 1) s) (base + (at + 1)) (last_end from es) (take count part) more =
             subst (λ (x : List ℕ). Settles x (base + (at + 1)) (last_end from es) (take count part) more) behind-all (settles (last_end from es) before) in
-            subst⁻¹ (λ (x : List ℕ). Ends s base from x (at + 1 + more)) (part-kept n count found part (drop (length found - n) (drop n found)) g.counted counted)
+            subst⁻¹ (λ (x : List FrameAt). Ends s base from x (at + 1 + more)) (part-kept n count found part (drop (length found - n) (drop n found)) g.counted counted)
             (ends_on (g.ends from b) in-it (g.unsettled in-it) (take count part) more k)
 
 pub loop-at-init : goal.loop-at-init

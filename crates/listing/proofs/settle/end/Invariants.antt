@@ -3,12 +3,13 @@ use lib.ListN.{length, take, drop}
 use mathlib.Core.Bool.{false}
 use mathlib.Core.List.{List}
 use mathlib.Core.Path.{◌≡◌}
+use Rattle.listing.specs.declared.place.FrameAt.{FrameAt}
 use Rattle.listing.specs.Parts.{Ends}
 use Rattle.listing.specs.State.{settled}
 use Rattle.listing.proofs.settle.end.Given as goal
 
 -- the frames kept of the places judged
-pub record Going (s : List ℕ) (base : ℕ) (found₀ found : List ℕ) (at n : ℕ) : Type 0 where
+pub record Going (s : List ℕ) (base : ℕ) (found₀ found : List FrameAt) (at n : ℕ) : Type 0 where
   pub ends : (from : ℕ) → from ≤ base → Ends s base from (take n found) at
   pub counted : n ≤ length found
   pub unsettled : at < length s → settled (drop at s) ≡ false

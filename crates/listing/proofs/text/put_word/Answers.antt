@@ -1,24 +1,12 @@
-use lib.ListN.{length-set}
+use Prim.Native.Nat.{◌+◌, ◌-◌}
+use lib.ListN.{length, length-take, length-drop}
+use mathlib.Core.Path.{◌∙◌}
 use native.Mathlib.Omega.{arith}
-use Rattle.listing.proofs.Laws.Output.{stored₆}
+use Rattle.link.proofs.Laws.Copying.{all_copied}
+use Rattle.listing.proofs.Laws.Output.{copied, put_copied}
 use Rattle.listing.proofs.text.put_word.Goals as goal
-
-pub bounds-out-at-2 : goal.bounds-out-at-2
-bounds-out-at-2 c = simp length-set (omega arith)
-
-pub bounds-out-at-3 : goal.bounds-out-at-3
-bounds-out-at-3 c = simp length-set (omega arith)
-
-pub bounds-out-at-4 : goal.bounds-out-at-4
-bounds-out-at-4 c = simp length-set (omega arith)
-
-pub bounds-out-at-5 : goal.bounds-out-at-5
-bounds-out-at-5 c = simp length-set (omega arith)
-
-pub bounds-out-at-6 : goal.bounds-out-at-6
-bounds-out-at-6 c = simp length-set (omega arith)
 
 pub returns : goal.returns
 returns c =
-    let w = c.args in
-    stored₆ w.out.now w.at w.a w.b w.c w.d w.e 0x20 c.requires
+    let a = c.args in
+    put_copied a.word.now a.out.now _ a.at c.requires (c.copy.ensures ∙ all_copied a.word.now _ (simp (length-take, length-drop) (omega arith)) ∙ copied a.word.now _ (a.at + length a.word.now - a.at) (omega arith))

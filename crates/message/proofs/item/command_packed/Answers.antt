@@ -17,15 +17,14 @@ packedOf o = packed (on_accepted command_fields o)
 pub packed_command-requires : goal.packed_command-requires
 unfolding message_of with_data
 packed_command-requires c =
-    let m = item_carried 0x0F read_command c.args.bytes.now _ c.header_of.ensures _ _ c.in-Accepted.is in
+    let m = item_carried 0x0F c.args.bytes.now _ c.in-Ok.ensures in
     let r = on_accepted_lem (λ x. fixed (F.Command x)) (read_command _) m.0 m.1 in
     (r.0, ap read_command c.«data».ensures ∙ r.1)
 
-pub returns-in-Accepted : goal.returns-in-Accepted
-returns-in-Accepted c =
+pub returns-in-Ok : goal.returns-in-Ok
+returns-in-Ok c =
     c.packed_command.ensures
-    ∙ ap packedOf (item_found 0x0F read_command _ _ c.header_of.ensures _ _ _ _ c.in-Accepted.is c.«data».ensures refl)
+    ∙ ap packedOf (item_found 0x0F read_command _ _ _ _ c.in-Ok.ensures c.«data».ensures refl)
 
-pub returns-in-Refused : goal.returns-in-Refused
-returns-in-Refused c =
-    c.pack_refusal.ensures ∙ ap packedOf (item_refused 0x0F read_command _ _ c.header_of.ensures _ c.in-Refused.is)
+pub returns-in-Err : goal.returns-in-Err
+returns-in-Err c = c.pack_refusal.ensures ∙ ap packedOf (item_refused 0x0F read_command _ _ c.in-Err.ensures)

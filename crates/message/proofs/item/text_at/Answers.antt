@@ -9,11 +9,6 @@ use Rattle.message.specs.Lists.{text_of}
 use Rattle.message.specs.Parts.{two_bits}
 use Rattle.message.proofs.item.text_at.Goals as goal
 
-pub returns-then-data-eq0 : goal.returns-then-data-eq0
-returns-then-data-eq0 c =
-    let a = c.args in
-    sym (past_texts (drop 1 a.«data».now) a.i (simp length-drop (omega arith)))
-
 pub returns-then-data-i : goal.returns-then-data-i
 returns-then-data-i c =
     let a = c.args in

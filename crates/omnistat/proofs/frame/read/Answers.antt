@@ -34,9 +34,6 @@ returns-then-whole-bytes c =
     let a = c.args in
     sym (long a.end a.bytes.now (omega arith) went_on (omega arith))
 
-pub is_summed-requires : goal.is_summed-requires
-is_summed-requires c = (omega arith, omega (arith, c.type_inv.bytes 1))
-
 pub returns-then-not-is_summed : goal.returns-then-not-is_summed
 returns-then-not-is_summed c =
     let went_on : directed c.args.end (get_or c.args.bytes.now 0 0) ≡ true = sym c.is_directed.ensures ∙ not-false _ c.if-not-is_directed.false-raw in

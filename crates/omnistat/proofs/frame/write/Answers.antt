@@ -1,44 +1,32 @@
-use mathlib.Core.Path.{◌≡◌, ap, ◌∙◌}
-use mathlib.Core.List.{◌∷◌}
+use mathlib.Core.Path.{◌≡◌, sym, ap, ◌∙◌}
+use mathlib.Core.List.{List, ◌++◌}
 use Prim.Native.Nat.{ℕ, ◌+◌, ◌%◌}
 use native.Mathlib.Omega.{arith}
-use lib.ListN.{length, length-set}
+use lib.ListN.{length, length-append}
+use lib.Seq.{paste}
 use Rattle.omnistat.specs.Frame.{sum_of}
-use Rattle.omnistat.proofs.Laws.Output.{data_placed, sum_two, leaves_no_room, leaves_summed}
+use Rattle.omnistat.proofs.Laws.Output.{placed, leaves_no_room, leaves_summed}
+use Rattle.omnistat.proofs.Laws.Sum.{sum_both}
 use Rattle.omnistat.proofs.frame.write.Goals as goal
 
-pub returns-then-out-payload : goal.returns-then-out-payload
-returns-then-out-payload c =
+pub returns-then-out-last : goal.returns-then-out-last
+returns-then-out-last c =
     let a = c.args in
-    let w = leaves_no_room a.out.now (a.first ∷ a.second ∷ a.payload.now) (omega arith) in
+    let n : length (a.head.now ++ a.payload.now) ≡ length a.head.now + length a.payload.now = length-append a.head.now a.payload.now in
+    let w = leaves_no_room a.out.now (a.head.now ++ a.payload.now) (omega arith) in
     record { result_value = w.0; out_after = w.1 }
-
-pub bounds-out-1 : goal.bounds-out-1
-bounds-out-1 c = simp length-set (omega arith)
-
-pub put-sum-requires : goal.put-sum-requires
-put-sum-requires c = simp length-set (omega arith)
-
-pub bounds-out-last : goal.bounds-out-last
-bounds-out-last c =
-    let kept : length c.put-sum.new.out ≡ length c.args.out.now = c.put-sum.auto.out ∙ simp length-set in
-    omega (arith, kept)
-
-pub shape_of-out : goal.shape_of-out
-shape_of-out c =
-    let kept : length c.put-sum.new.out ≡ length c.args.out.now = c.put-sum.auto.out ∙ simp length-set in
-    simp length-set kept
 
 pub returns : goal.returns
 returns c =
     let a = c.args in
-    let p = c.args.payload.now in
-    let put = c.put-sum in
-    let sum : c.plus-2.result ≡ sum_of (a.first ∷ a.second ∷ p)
-    = c.plus-2.ensures
-    ∙ ap (λ (n : ℕ). (n + put.result) % 256) c.plus.ensures
-    ∙ ap (λ (n : ℕ). ((a.first + a.second) % 256 + n) % 256) put.ensures.value
-    ∙ sum_two a.first a.second p in
-    let w = leaves_summed a.out.now (a.first ∷ a.second ∷ p) (length p + 2) c.plus-2.result _ (omega arith) sum (omega arith)
-    (put.ensures.out_after ∙ data_placed a.first a.second p a.out.now (omega arith)) in
+    let h = a.head.now in
+    let p = a.payload.now in
+    let w = leaves_summed a.out.now (h ++ p) (length h + length p) _ c.put.new.out (sym (length-append h p))
+    (ap (λ (n : ℕ). (n + c.put.result) % 256) c.put-sum.ensures.value
+    ∙ ap (λ (n : ℕ). (sum_of h + n) % 256) c.put.ensures.value
+    ∙ sum_both h p)
+    (omega arith)
+    (c.put.ensures.out_after
+    ∙ ap (λ (d : List ℕ). paste d (length h) p (length p)) c.put-sum.ensures.out_after
+    ∙ placed h p a.out.now (omega arith)) in
     record { result_value = w.0; out_after = w.1 }

@@ -8,35 +8,34 @@ use Rattle.omnistat.specs.declared.frame.End.TheVariants.{Host}
 use Rattle.omnistat.specs.Frame.{Frame, address_of}
 use Rattle.omnistat.specs.Message.{Known, as_message_by}
 use Rattle.omnistat.specs.Omnistat.{Message, Addressed, addressed_counted}
-use Rattle.omnistat.specs.Answer.{fields_by}
-use Rattle.omnistat.specs.Parts.{framed_in}
+use Rattle.omnistat.specs.Answer.{fields_by, known_in}
 use Rattle.omnistat.proofs.Laws.Omnistat.{counted-refused, counted_whole, from_host}
 use Rattle.omnistat.proofs.reply.pack_counted.Goals as goal
 
 abbrev packedAs : Known Host → Outcome (Addressed (Message Host)) → ℕ
 packedAs known o = packed (on_accepted (fields_by Host known) o)
 
-pub overflow_sub-first : goal.overflow_sub-first
-overflow_sub-first c =
+pub overflow_sub-f : goal.overflow_sub-f
+overflow_sub-f c =
     let s = c.args.bytes.now in
-    from_host s (record { first = c.in-Whole.first; kind = c.in-Whole.kind; payload = take c.in-Whole.count (drop 2 s) })
-    (ap (framed_in s) (sym c.in-Whole.is) ∙ c.read.ensures)
+    from_host s (record { first = c.in-Ok.f.first; kind = c.in-Ok.f.kind; payload = take c.in-Ok.f.count (drop 2 s) })
+    c.in-Ok.ensures
 
-pub returns-in-Refused : goal.returns-in-Refused
-returns-in-Refused c =
+pub returns-in-Err : goal.returns-in-Err
+returns-in-Err c =
     let a = c.args in
     let s = c.args.bytes.now in
     c.pack_refusal.ensures
-    ∙ ap (packedAs (a.habit, a.polled))
+    ∙ ap (packedAs (known_in a.known))
     (sym
-    (counted-refused Host (a.habit, a.polled) s (number_of c.in-Refused.r)
-    (ap (framed_in s) (sym c.in-Refused.is) ∙ c.read.ensures)))
+    (counted-refused Host (known_in a.known) s (number_of c.in-Err.r)
+    c.in-Err.ensures))
 
-pub returns-in-Whole : goal.returns-in-Whole
-returns-in-Whole c =
+pub returns-in-Ok : goal.returns-in-Ok
+returns-in-Ok c =
     let a = c.args in
     let s = c.args.bytes.now in
-    let f : Frame = record { first = c.in-Whole.first; kind = c.in-Whole.kind; payload = take c.in-Whole.count (drop 2 s) } in
+    let f : Frame = record { first = c.in-Ok.f.first; kind = c.in-Ok.f.kind; payload = take c.in-Ok.f.count (drop 2 s) } in
     c.pack.ensures
-    ∙ ap (λ (d : List ℕ). packedAs (a.habit, a.polled) (on_accepted (addressed_counted Host (address_of Host f.first)) (as_message_by Host (a.habit, a.polled) f.kind d))) c.part.ensures
-    ∙ ap (packedAs (a.habit, a.polled)) (sym (counted_whole Host (a.habit, a.polled) s f (ap (framed_in s) (sym c.in-Whole.is) ∙ c.read.ensures)))
+    ∙ ap (λ (d : List ℕ). packedAs (known_in a.known) (on_accepted (addressed_counted Host (address_of Host f.first)) (as_message_by Host (known_in a.known) f.kind d))) c.part.ensures
+    ∙ ap (packedAs (known_in a.known)) (sym (counted_whole Host (known_in a.known) s f c.in-Ok.ensures))

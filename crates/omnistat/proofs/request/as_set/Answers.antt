@@ -1,22 +1,18 @@
-use mathlib.Core.Path.{sym, ap, ◌∙◌}
-use mathlib.Core.List.{◌∷◌, ◌++◌}
-use Rattle.answer.specs.Answer.{on_accepted}
+use mathlib.Core.Path.{◌∙◌}
+use Rattle.std.specs.Prelude.{Ok, Err}
 use Rattle.omnistat.specs.declared.frame.End.TheVariants.{Thermostat}
-use Rattle.omnistat.specs.declared.message.Run.{Run}
 use Rattle.omnistat.specs.Message.{set_from}
-use Rattle.omnistat.specs.Omnistat.{addressed_counted}
-use Rattle.omnistat.specs.Parts.{run_in}
+use Rattle.answer.proofs.Laws.Exit.{still_passed_up}
 use Rattle.omnistat.proofs.Laws.Heard.{run_made}
 use Rattle.omnistat.proofs.request.as_set.Goals as goal
 
-pub returns-in-Refused : goal.returns-in-Refused
-returns-in-Refused c rest =
+pub returns-in_err-run : goal.returns-in_err-run
+returns-in_err-run c rest =
     let a = c.args in
-    ap (λ (r : Run). on_accepted (λ p. addressed_counted Thermostat a.first (set_from p.0 p.1)) (run_in (0 ∷ 0 ∷ (a.payload.now ++ rest)) r)) (sym c.in-Refused.is)
-    ∙ run_made Thermostat a.first set_from a.payload.now c.read_run.result c.read_run.ensures rest
+    still_passed_up _ _ c.from_residual.ensures.1 _
+    ∙ run_made Thermostat a.first set_from a.payload.now (Err c.in_err-run.field-0.0) c.in_err-run.ensures rest
 
-pub returns-in-Registers : goal.returns-in-Registers
-returns-in-Registers c rest =
+pub returns : goal.returns
+returns c rest =
     let a = c.args in
-    ap (λ (r : Run). on_accepted (λ p. addressed_counted Thermostat a.first (set_from p.0 p.1)) (run_in (0 ∷ 0 ∷ (a.payload.now ++ rest)) r)) (sym c.in-Registers.is)
-    ∙ run_made Thermostat a.first set_from a.payload.now c.read_run.result c.read_run.ensures rest
+    run_made Thermostat a.first set_from a.payload.now (Ok c.in_ok-run.run') c.in_ok-run.ensures rest

@@ -9,26 +9,25 @@ use Rattle.omnistat.specs.Frame.{Frame, address_of}
 use Rattle.omnistat.specs.Message.{as_message}
 use Rattle.omnistat.specs.Omnistat.{Message, Addressed, addressed_counted}
 use Rattle.omnistat.specs.Answer.{fields}
-use Rattle.omnistat.specs.Parts.{framed_in}
 use Rattle.omnistat.proofs.Laws.Omnistat.{counted-refused, counted_whole}
 use Rattle.omnistat.proofs.request.pack_counted.Goals as goal
 
 abbrev packedAs : Outcome (Addressed (Message Thermostat)) → ℕ
 packedAs o = packed (on_accepted (fields Thermostat) o)
 
-pub returns-in-Refused : goal.returns-in-Refused
-returns-in-Refused c =
+pub returns-in-Err : goal.returns-in-Err
+returns-in-Err c =
     let s = c.args.bytes.now in
     c.pack_refusal.ensures
     ∙ ap packedAs
     (sym
-    (counted-refused Thermostat tt s (number_of c.in-Refused.r)
-    (ap (framed_in s) (sym c.in-Refused.is) ∙ c.read.ensures)))
+    (counted-refused Thermostat tt s (number_of c.in-Err.r)
+    c.in-Err.ensures))
 
-pub returns-in-Whole : goal.returns-in-Whole
-returns-in-Whole c =
+pub returns-in-Ok : goal.returns-in-Ok
+returns-in-Ok c =
     let s = c.args.bytes.now in
-    let f : Frame = record { first = c.in-Whole.first; kind = c.in-Whole.kind; payload = take c.in-Whole.count (drop 2 s) } in
+    let f : Frame = record { first = c.in-Ok.f.first; kind = c.in-Ok.f.kind; payload = take c.in-Ok.f.count (drop 2 s) } in
     c.pack.ensures
     ∙ ap (λ (d : List ℕ). packedAs (on_accepted (addressed_counted Thermostat (address_of Thermostat f.first)) (as_message Thermostat f.kind d))) c.part.ensures
-    ∙ ap packedAs (sym (counted_whole Thermostat tt s f (ap (framed_in s) (sym c.in-Whole.is) ∙ c.read.ensures)))
+    ∙ ap packedAs (sym (counted_whole Thermostat tt s f c.in-Ok.ensures))

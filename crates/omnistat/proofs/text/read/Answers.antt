@@ -35,9 +35,6 @@ returns-then-last-bytes c =
     let counted : c.until_end-count.result ≡ until_end (take 61 (drop 3 c.args.bytes.now)) = c.until_end-count.ensures ∙ ap until_end c.part.ensures in
     sym (text_long c.args.end c.until_end-count.result c.args.bytes.now c.requires went_on counted c.if-count-gt-MOST_CHARACTERS.false (omega arith))
 
-pub is_summed-requires : goal.is_summed-requires
-is_summed-requires c = (omega arith, omega (arith, c.if-count-gt-MOST_CHARACTERS.false))
-
 pub returns-then-not-is_summed : goal.returns-then-not-is_summed
 returns-then-not-is_summed c =
     let went_on : directed c.args.end (get_or c.args.bytes.now 0 0) ≡ true = sym c.is_directed.ensures ∙ not-false _ c.if-not-is_directed.false-raw in

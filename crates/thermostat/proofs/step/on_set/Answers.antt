@@ -11,9 +11,9 @@ returns-then-not-is_heard c =
     let m = c.args.map.now in
     let q = set_from a.start a.values.now in
     let e = sym c.is_heard.ensures ∙ c.if-not-is_heard.true in
-    let s = unheard a.own a.first (counted (register_reply m q)) a.out.now e in record {
+    let s = unheard a.own.number a.first (counted (register_reply m q)) a.out.now e in record {
       result_value = s.0;
-      map_after = sym (unheard_after a.own a.first (changed m (counted q)) m e);
+      map_after = sym (unheard_after a.own.number a.first (changed m (counted q)) m e);
       out_after = s.1;
     }
 
@@ -23,9 +23,9 @@ returns-then-first-eq-BROADCAST c =
     let m = c.args.map.now in
     let q = set_from a.start a.values.now in
     let e = sym c.is_heard.ensures ∙ c.if-not-is_heard.false in
-    let s = unanswered a.own a.first (counted (register_reply m q)) a.out.now e c.if-first-eq-BROADCAST.true in record {
+    let s = unanswered a.own.number a.first (counted (register_reply m q)) a.out.now e c.if-first-eq-BROADCAST.true in record {
       result_value = s.0;
-      map_after = c.change-taken.ensures.map_after ∙ sym (heard_after a.own a.first (changed m (counted q)) m e);
+      map_after = c.change-taken.ensures.map_after ∙ sym (heard_after a.own.number a.first (changed m (counted q)) m e);
       out_after = s.1;
     }
 
@@ -37,9 +37,9 @@ returns c =
     let e = sym c.is_heard.ensures ∙ c.if-not-is_heard.false in
     let changes = c.change-taken in
     let s =
-    answered a.own a.first (counted (register_reply m q)) a.out.now e c.if-first-eq-BROADCAST.false _ _
-    (confirmed a.own a.start m a.values.now a.out.now changes.result changes.ensures.value _ _ (c.confirm.ensures.result_value, c.confirm.ensures.out_after)) in record {
+    answered a.own.number a.first (counted (register_reply m q)) a.out.now e c.if-first-eq-BROADCAST.false _ _
+    (confirmed a.own.number a.start m a.values.now a.out.now changes.result changes.ensures.value _ _ (c.confirm.ensures.result_value, c.confirm.ensures.out_after)) in record {
       result_value = s.0;
-      map_after = changes.ensures.map_after ∙ sym (heard_after a.own a.first (changed m (counted q)) m e);
+      map_after = changes.ensures.map_after ∙ sym (heard_after a.own.number a.first (changed m (counted q)) m e);
       out_after = s.1;
     }

@@ -1,3 +1,4 @@
+use native.Mathlib.Omega.{arith}
 use mathlib.Core.Path.{refl, sym, ◌∙◌}
 use Rattle.omnistat.specs.Message.{acknowledge}
 use Rattle.omnistat.specs.Omnistat.{counted}
@@ -9,9 +10,9 @@ pub returns-then-not-is_heard : goal.returns-then-not-is_heard
 returns-then-not-is_heard c =
     let a = c.args in
     let e = sym c.is_heard.ensures ∙ c.if-not-is_heard.true in
-    let s = unheard a.own a.first (counted acknowledge) a.out.now e in record {
+    let s = unheard a.own.number a.first (counted acknowledge) a.out.now e in record {
       result_value = s.0;
-      texts_after = sym (unheard_after a.own a.first (text_stored a.texts.now a.start a.characters.now) a.texts.now e);
+      texts_after = sym (unheard_after a.own.number a.first (text_stored a.texts.now a.start a.characters.now) a.texts.now e);
       out_after = s.1;
     }
 
@@ -19,9 +20,9 @@ pub returns-then-first-eq-BROADCAST : goal.returns-then-first-eq-BROADCAST
 returns-then-first-eq-BROADCAST c =
     let a = c.args in
     let e = sym c.is_heard.ensures ∙ c.if-not-is_heard.false in
-    let s = unanswered a.own a.first (counted acknowledge) a.out.now e c.if-first-eq-BROADCAST.true in record {
+    let s = unanswered a.own.number a.first (counted acknowledge) a.out.now e c.if-first-eq-BROADCAST.true in record {
       result_value = s.0;
-      texts_after = c.store_text.ensures ∙ sym (heard_after a.own a.first (text_stored a.texts.now a.start a.characters.now) a.texts.now e);
+      texts_after = c.store_text.ensures ∙ sym (heard_after a.own.number a.first (text_stored a.texts.now a.start a.characters.now) a.texts.now e);
       out_after = s.1;
     }
 
@@ -30,10 +31,10 @@ returns c =
     let a = c.args in
     let e = sym c.is_heard.ensures ∙ c.if-not-is_heard.false in
     let s =
-    answered a.own a.first (counted acknowledge) a.out.now e c.if-first-eq-BROADCAST.false _ _
-    (replied a.own c.requires.le_own.0 c.requires.le_own.1 a.out.now c.requires.in_bounds acknowledge acknowledge refl acknowledge_made _ _
+    answered a.own.number a.first (counted acknowledge) a.out.now e c.if-first-eq-BROADCAST.false _ _
+    (replied a.own.number a.own.in_range.0 a.own.in_range.1 a.out.now (omega arith) acknowledge acknowledge refl acknowledge_made _ _
     (c.write_acknowledge.ensures.result_value, c.write_acknowledge.ensures.out_after)) in record {
       result_value = s.0;
-      texts_after = c.store_text.ensures ∙ sym (heard_after a.own a.first (text_stored a.texts.now a.start a.characters.now) a.texts.now e);
+      texts_after = c.store_text.ensures ∙ sym (heard_after a.own.number a.first (text_stored a.texts.now a.start a.characters.now) a.texts.now e);
       out_after = s.1;
     }

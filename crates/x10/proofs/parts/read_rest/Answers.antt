@@ -1,94 +1,58 @@
-use mathlib.Core.Path.{◌≡◌, refl, sym, ap, ap₂, ◌∙◌}
-use mathlib.Core.Bool.{true}
-use mathlib.Core.List.{List}
-use Prim.Native.Nat.{ℕ, ◌+◌, ◌≤◌, ◌<◌}
+use mathlib.Core.Path.{sym, ap₂, ◌∙◌}
+use Prim.Native.Nat.{ℕ, ◌+◌}
 use native.Mathlib.Omega.{arith}
-use lib.ListN.{length}
-use lib.Seq.{slice}
 use Rattle.answer.specs.Answer.{accepted}
-use Rattle.x10.specs.Places.{are_places, spelled}
 use Rattle.x10.specs.Pattern.{extended}
-use Rattle.x10.specs.Parts.{spelling_of}
-use Rattle.x10.proofs.Laws.Bits.{part_back}
 use Rattle.x10.proofs.Laws.Codes.{index_small}
-use Rattle.x10.proofs.Laws.Pattern.{rest_short, rest_wrong, rest-refused, rest_key_wrong, data_wrong, command_wrong, rest_read, rest-accepted, goes_on}
-use borrow.Author.Tests.{not-false}
+use Rattle.x10.proofs.Laws.Pattern.{rest_short, rest_key_wrong, data_wrong, command_wrong, rest_read, rest-accepted, goes_on}
+use Rattle.x10.proofs.Laws.Read.{rest-places}
 use Rattle.x10.proofs.parts.read_rest.Goals as goal
 
 pub returns-then-places-lt-EXTENDED : goal.returns-then-places-lt-EXTENDED
 returns-then-places-lt-EXTENDED c = sym (rest_short c.args.places.now c.args.house c.if-places-lt-EXTENDED.true)
 
-pub returns-then-not-are_places : goal.returns-then-not-are_places
-returns-then-not-are_places c =
-    let a = c.args in
-    sym (rest_wrong a.places.now a.house c.if-places-lt-EXTENDED.false (sym c.are_places.ensures ∙ c.if-not-are_places.true))
-
 pub returns-in_default : goal.returns-in_default
 returns-in_default c =
     let a = c.args in
-    sym
-    (rest_key_wrong a.places.now a.house c.if-places-lt-EXTENDED.false (sym c.spelled-key_bits.ensures ∙ ap spelling_of c.in_default.is)
-    ∙ rest-refused a.places.now (sym c.are_places.ensures ∙ c.if-not-are_places.false))
+    c.rest_refusal.ensures ∙ sym (rest_key_wrong a.places.now a.house c.if-places-lt-EXTENDED.false (sym c.in_default.ensures.value))
 
-pub returns-in_default-data_bits : goal.returns-in_default-data_bits
-returns-in_default-data_bits c =
-    let places : List ℕ = c.args.places.now in
-    let key_read : spelled (slice 22 30 places) ≡ accepted c.in-Number.key = sym c.spelled-key_bits.ensures ∙ ap spelling_of c.in-Number.is in
-    let long : 62 ≤ length places = c.if-places-lt-EXTENDED.false in
-    let all-places : are_places (slice 22 62 places) ≡ true = sym c.are_places.ensures ∙ not-false _ c.if-not-are_places.false-raw in
-    sym
-    (data_wrong places _ long _ key_read (sym c.spelled-data_bits.ensures ∙ ap spelling_of c.in_default-data_bits.is)
-    ∙ rest-refused places all-places)
+pub returns-in_default-spelled : goal.returns-in_default-spelled
+returns-in_default-spelled c =
+    let a = c.args in
+    c.rest_refusal-in_default-spelled.ensures
+    ∙ sym
+    (data_wrong a.places.now a.house c.if-places-lt-EXTENDED.false _ (sym c.in-Some.ensures.value) (sym c.in_default-spelled.ensures.value))
 
-pub returns-in_default-command_bits : goal.returns-in_default-command_bits
-returns-in_default-command_bits c =
-    let places : List ℕ = c.args.places.now in
-    let key_read : spelled (slice 22 30 places) ≡ accepted c.in-Number.key = sym c.spelled-key_bits.ensures ∙ ap spelling_of c.in-Number.is in
-    let data_read : spelled (slice 30 46 places) ≡ accepted c.in-Number-data_bits.data = sym c.spelled-data_bits.ensures ∙ ap spelling_of c.in-Number-data_bits.is in
-    let long : 62 ≤ length places = c.if-places-lt-EXTENDED.false in
-    let all-places : are_places (slice 22 62 places) ≡ true = sym c.are_places.ensures ∙ not-false _ c.if-not-are_places.false-raw in
-    sym
-    (command_wrong places _ long _ key_read _ data_read (sym c.spelled-command_bits.ensures ∙ ap spelling_of c.in_default-command_bits.is)
-    ∙ rest-refused places all-places)
+pub returns-in_default-spelled-2 : goal.returns-in_default-spelled-2
+returns-in_default-spelled-2 c =
+    let a = c.args in
+    c.rest_refusal-in_default-spelled-2.ensures
+    ∙ sym
+    (command_wrong a.places.now a.house c.if-places-lt-EXTENDED.false _ (sym c.in-Some.ensures.value) _ (sym c.in-Some-spelled.ensures.value)
+    (sym c.in_default-spelled-2.ensures.value))
 
 pub returns-then-places-gt-EXTENDED : goal.returns-then-places-gt-EXTENDED
 returns-then-places-gt-EXTENDED c =
-    let places : List ℕ = c.args.places.now in
-    let key_read : spelled (slice 22 30 places) ≡ accepted c.in-Number.key = sym c.spelled-key_bits.ensures ∙ ap spelling_of c.in-Number.is in
-    let data_read : spelled (slice 30 46 places) ≡ accepted c.in-Number-data_bits.data = sym c.spelled-data_bits.ensures ∙ ap spelling_of c.in-Number-data_bits.is in
-    let command-read : spelled (slice 46 62 places) ≡ accepted c.in-Number-command_bits.command = sym c.spelled-command_bits.ensures ∙ ap spelling_of c.in-Number-command_bits.is in
-    let long : 62 ≤ length places = c.if-places-lt-EXTENDED.false in
-    let all-places : are_places (slice 22 62 places) ≡ true = sym c.are_places.ensures ∙ not-false _ c.if-not-are_places.false-raw in
+    let ps = c.args.places.now in
+    let long = c.if-places-lt-EXTENDED.false in
+    let key = sym c.in-Some.ensures.value in
+    let data_read = sym c.in-Some-spelled.ensures.value in
+    let command = sym c.in-Some-spelled-2.ensures.value in
     sym
-    (rest_read places _ long _ key_read _ data_read all-places _ command-read
-    ∙ goes_on places _ 62 c.if-places-gt-EXTENDED.true)
-
-pub index_of-requires-2 : goal.index_of-requires-2
-index_of-requires-2 c =
-    let places : List ℕ = c.args.places.now in
-    let key_read : spelled (slice 22 30 places) ≡ accepted c.in-Number.key = sym c.spelled-key_bits.ensures ∙ ap spelling_of c.in-Number.is in
-    let long : 62 ≤ length places = c.if-places-lt-EXTENDED.false in
-    let key_small : c.in-Number.key < 16 = (part_back 22 30 4 places _ (omega (arith, long)) refl key_read).0 in
-    key_small
+    (rest_read ps c.args.house long _ key _ data_read (rest-places ps long _ key _ data_read _ command) _ command
+    ∙ goes_on ps _ 62 c.if-places-gt-EXTENDED.true)
 
 pub overflow_add-result : goal.overflow_add-result
-overflow_add-result c =
-    let places : List ℕ = c.args.places.now in
-    let key_read : spelled (slice 22 30 places) ≡ accepted c.in-Number.key = sym c.spelled-key_bits.ensures ∙ ap spelling_of c.in-Number.is in
-    let long : 62 ≤ length places = c.if-places-lt-EXTENDED.false in
-    let key_small : c.in-Number.key < 16 = (part_back 22 30 4 places _ (omega (arith, long)) refl key_read).0 in
-    omega (arith, index_small _ key_small, c.index_of-2.ensures)
+overflow_add-result c = omega (arith, index_small c.in-Some.key c.in-Some.ensures.upper_bound, c.index_of-2.ensures)
 
 pub returns : goal.returns
 returns c =
-    let places : List ℕ = c.args.places.now in
-    let key_read : spelled (slice 22 30 places) ≡ accepted c.in-Number.key = sym c.spelled-key_bits.ensures ∙ ap spelling_of c.in-Number.is in
-    let data_read : spelled (slice 30 46 places) ≡ accepted c.in-Number-data_bits.data = sym c.spelled-data_bits.ensures ∙ ap spelling_of c.in-Number-data_bits.is in
-    let command-read : spelled (slice 46 62 places) ≡ accepted c.in-Number-command_bits.command = sym c.spelled-command_bits.ensures ∙ ap spelling_of c.in-Number-command_bits.is in
-    let long : 62 ≤ length places = c.if-places-lt-EXTENDED.false in
-    let all-places : are_places (slice 22 62 places) ≡ true = sym c.are_places.ensures ∙ not-false _ c.if-not-are_places.false-raw in
-    let d = c.in-Number-data_bits.data in
-    let m = c.in-Number-command_bits.command in
-    ap₂ (λ (i j : ℕ). accepted (extended i (j + 1) d m)) c.index_of.ensures c.index_of-2.ensures
+    let ps = c.args.places.now in
+    let there = c.if-places-lt-EXTENDED.false in
+    let key = sym c.in-Some.ensures.value in
+    let data_read = sym c.in-Some-spelled.ensures.value in
+    let command = sym c.in-Some-spelled-2.ensures.value in
+    ap₂ (λ (i j : ℕ). accepted (extended i (j + 1) c.in-Some-spelled.«data» c.in-Some-spelled-2.command)) c.index_of.ensures c.index_of-2.ensures
     ∙ sym
-    (rest-accepted places _ long _ key_read d data_read all-places m command-read (omega (arith, c.if-places-gt-EXTENDED.false)))
+    (rest-accepted ps c.args.house there _ key _ data_read (rest-places ps there _ key _ data_read _ command) _ command
+    (omega (arith, c.if-places-gt-EXTENDED.false)))

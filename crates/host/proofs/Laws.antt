@@ -1,2 +1,0 @@
--- The laws, a file for each subject.
-pub mod Written

@@ -1,9 +1,0 @@
-use Rattle.omnistat.specs.Message.{Reply, acknowledge}
-use Rattle.omnistat.proofs.Laws.Message.{right_length, wrong_length}
-use Rattle.omnistat.proofs.reply.as_acknowledge.Goals as goal
-
-pub returns-then-payload-ne0 : goal.returns-then-payload-ne0
-returns-then-payload-ne0 c rest = let a = c.args in simp (wrong_length {M = Reply} 0 a.payload.now acknowledge c.if-payload-ne0.true)
-
-pub returns : goal.returns
-returns c rest = let a = c.args in simp (right_length {M = Reply} 0 a.payload.now acknowledge c.if-payload-ne0.false)
