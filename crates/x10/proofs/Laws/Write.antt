@@ -76,7 +76,7 @@ module _ (h code : ℕ) where
   unfolding write_function_code
   code_known f e = simp e
 
--- what the exit of a ? hands on is the refusal that it met
+-- what a refusal that is passed up hands on is that refusal
 pub handed_on : {A B : Type 0} (r : Result A Refusal) (e : Refusal) {o : Outcome B} → IsErrAnd r (λ (x : Refusal). x ≡ e) → refused (number_of e) ≡ o
     → (n : ℕ) × (o ≡ refused n) × (outcome_of r ≡ refused n)
 handed_on r e p q = (number_of e, sym q, passed_up r e p)
