@@ -1,6 +1,6 @@
 -- What the functions behind the reader and the writers promise one another.
 use Rattle.std.specs.Prelude.{ℕ, ◌/◌, ◌%◌, Bool, cond, ◌||◌, List, ◌≡◌, eqb, get_or}
-use Rattle.answer.specs.Answer.{Outcome, accepted, and_then, on_accepted}
+use Rattle.answer.specs.Answer.{Outcome, refused, accepted, and_then, on_accepted}
 use Rattle.link.specs.Frame.{header, read_frame}
 use Rattle.link.specs.declared.frame.Header.{Header}
 use Rattle.message.specs.Command.{command_of}
@@ -20,6 +20,15 @@ is_plain kind =
 -- something is accepted
 abbrev pub Taken : {A : Type 0} → Outcome A → Type 0
 Taken {A} o = (a : A) × (o ≡ accepted a)
+
+-- the number of a refusal, or 0 where something is accepted
+abbrev pub fault_of : {A : Type 0} → Outcome A → ℕ
+fault_of (refused n) = n
+fault_of (accepted a) = 0
+
+-- the refusal with a number of 6, 7 and 8
+abbrev pub fault_number : ℕ → ℕ
+fault_number n = cond (eqb n 6) 6 (cond (eqb n 7) 7 8)
 
 -- the header of a whole message
 unfoldable pub message_header : List ℕ → Outcome Header

@@ -6,14 +6,14 @@ use Prim.Native.Nat.{ℕ, ◌+◌, ◌*◌, ◌%◌, ◌≤◌}
 use native.Mathlib.Omega.{arith}
 use lib.Dec.{eqb, ltb}
 use lib.ListN.{length, get_or, drop, length-drop}
-use borrow.Author.Tests.{eqb-true}
-use Rattle.answer.specs.Answer.{Outcome, refused, accepted, refuse_if, on_accepted}
+use borrow.Author.Tests.{eqb-true, eqb-false}
+use Rattle.answer.specs.Answer.{Outcome, refused, accepted, refuse_if, and_then, on_accepted}
 use Rattle.link.specs.Frame.{Frame}
 use Rattle.message.specs.Command.{command_listed, command_of, checked_command, read_command}
 use Rattle.message.specs.Lists.{zone_status_type, events_type, message_status_type, zone_of, word_of, zones, zones_listed, words, texts}
 use Rattle.message.specs.Log.{log_listed, log_of, read_log}
 use Rattle.message.specs.Message.{Message, fixed, zone_status, events, message_status, digits_listed, order_listed, status_length, read_plain, read_login, read_zone_request, read_zone_status, read_events, read_message_status, with_data, message_of, counted}
-use Rattle.message.specs.Parts.{texts_in, items_in}
+use Rattle.message.specs.Parts.{fault_of, fault_number, texts_in, items_in}
 use Rattle.message.specs.Typed.{fixed_frame, count_of}
 use Rattle.message.specs.declared.message.Fixed.{Fixed}
 use Rattle.message.specs.declared.message.Fixed.TheVariants as F
@@ -85,6 +85,33 @@ faults kind d =
     (either (eqb kind 0x0F) _ _ (makes (λ c. fixed (F.Command c)) (read_command d) (sized (not (eqb (length d) 4)) (not (command_listed (get_or d 0 0) (get_or d 1 0) (word_of (get_or d 2 0) (get_or d 3 0)))) (command_of (get_or d 0 0) (get_or d 1 0) (word_of (get_or d 2 0) (get_or d 3 0)))))
     (refuses 6 (omega arith) (omega arith)))))))))))))))
 
+-- ---- by the number
+
+number_same : (n : ℕ) → 6 ≤ n → n ≤ 8 → fault_number n ≡ n
+number_same n low high = by (eqb n 6) (eqb n 7) refl refl
+  where
+    by : (t u : Bool) → eqb n 6 ≡ t → eqb n 7 ≡ u → cond t 6 (cond u 7 8) ≡ n
+    by true u e f = sym (eqb-true n 6 e)
+    by false true e f = sym (eqb-true n 7 f)
+    by false false e f = omega (arith, eqb-false n 6 e, eqb-false n 7 f)
+
+module _ (kind : ℕ) (d : List ℕ) (fault : ℕ) (is : fault ≡ fault_of (message_of kind d)) where
+  pub faultless : fault ≡ 0 → (m : Message) × (message_of kind d ≡ accepted m)
+  faultless none = by (message_of kind d) refl is
+    where
+      by : (o : Outcome Message) → message_of kind d ≡ o → fault ≡ fault_of o → (m : Message) × (o ≡ accepted m)
+      by (refused n) q e = let w = faults kind d n q in let nothing : ⊥ = omega arith in absurd nothing
+      by (accepted m) q e = (m, refl)
+
+  pub faulty : (fault ≡ 0 → ⊥) → (message_of kind d ≡ refused fault) × (fault_number fault ≡ fault)
+  faulty some = by (message_of kind d) refl is
+    where
+      by : (o : Outcome Message) → message_of kind d ≡ o → fault ≡ fault_of o → (o ≡ refused fault) × (fault_number fault ≡ fault)
+      by (refused n) q e =
+          let w = faults kind d n q in
+          (ap refused (sym e), number_same fault (omega arith) (omega arith))
+      by (accepted m) q e = absurd (some e)
+
 -- ---- how many items a message has, by its type and its count of data bytes
 
 fixed_none : (f : Fixed) (n : ℕ) → items_in (fixed_frame f).kind n ≡ 0
@@ -131,3 +158,11 @@ count_of_lem kind d =
   where
     at : (k : ℕ) → kind ≡ k → items_in k (length d) ≡ items_in kind (length d)
     at k is = ap (λ (x : ℕ). items_in x (length d)) (sym is)
+
+-- ---- what is answered by the number
+
+module _ (kind : ℕ) (d : List ℕ) (fault : ℕ) (is : fault ≡ fault_of (message_of kind d)) where
+  pub then_faulty : {A : Type 0} (g : Message → Outcome A) (n : ℕ) → (fault ≡ 0 → ⊥) → n ≡ fault_number fault → refused n ≡ and_then (message_of kind d) g
+  then_faulty g n some e =
+      let f = faulty kind d fault is some in
+      ap refused (e ∙ f.1) ∙ sym (ap (λ (o : Outcome Message). and_then o g) f.0)

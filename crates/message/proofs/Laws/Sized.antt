@@ -15,10 +15,11 @@ use Rattle.message.specs.Command.{read_command}
 use Rattle.message.specs.Lists.{zones_listed}
 use Rattle.message.specs.Log.{read_log}
 use Rattle.message.specs.Message.{Message, fixed, digits_listed, status_length, read_login, read_zone_status, read_events, with_data, message_of, write_message}
-use Rattle.message.specs.Parts.{nothing}
+use Rattle.message.specs.Parts.{nothing, fault_of, fault_number}
 use Rattle.message.specs.declared.message.Fixed.TheVariants as F
 use Rattle.message.proofs.Laws.Accepts.{Every, every_check, every_value, every_type, every_plain, every_login, every_request, every-texts, every_log, every_command}
 use Rattle.message.proofs.Laws.Checked.{never, was_accepted, was_refused}
+use Rattle.message.proofs.Laws.Fault.{faultless, then_faulty}
 
 module _ (d : List ℕ) where
   abbrev Few : Message → Type 0
@@ -87,6 +88,18 @@ module _ (kind : ℕ) (d : List ℕ) where
 
     pub few_checked : length d ≤ 64
     few_checked = let m = was_accepted nothing (message_of kind d) tt e in few d kind m.0 m.1
+
+  -- by the number of the fault
+  module _ (fault : ℕ) (is : fault ≡ fault_of (message_of kind d)) where
+    pub size_faulty : (n : ℕ) → (fault ≡ 0 → ⊥) → n ≡ fault_number fault → refused n ≡ on_accepted length (write_message kind d)
+    unfolding write_message
+    size_faulty n some e = ap (on_accepted length) (then_faulty kind d fault is (λ m. write_frame kind d) n some e)
+
+    pub size_faultless : fault ≡ 0 → accepted (length d + 5) ≡ on_accepted length (write_message kind d)
+    size_faultless none = let m = faultless kind d fault is none in sym (written_size m.0 m.1)
+
+    pub few_faultless : fault ≡ 0 → length d ≤ 64
+    few_faultless none = let m = faultless kind d fault is none in few d kind m.0 m.1
 
 -- four digits are written as a login
 pub login_written : (d : List ℕ) → length d ≡ 4 → digits_listed (get_or d 0 0) (get_or d 1 0) (get_or d 2 0) (get_or d 3 0) ≡ true

@@ -1,0 +1,2 @@
+-- The laws, a file for each subject.
+pub mod Written
