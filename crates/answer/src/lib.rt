@@ -62,10 +62,11 @@ pub trait PackedField: Copy {
 
     ghost value: { Self → ℕ };
 
-    // The field, and the fields above it.
+    // The field, and the fields above it; of more than fit, the low 64 bits.
     fn below(self, above: u64) -> u64
         ensures fits { value self < 2 ^ bits }
-        ensures stacked { value self + 2 ^ bits * above < 2 ^ 64 → result ≡ value self + 2 ^ bits * above };
+        ensures stacked { value self + 2 ^ bits * above < 2 ^ 64 → result ≡ value self + 2 ^ bits * above }
+        ensures low_bits { result ≡ (value self + 2 ^ bits * above) % 2 ^ 64 };
 }
 
 impl PackedField for u8 {
@@ -91,9 +92,10 @@ impl PackedField for u16 {
 // The low byte of a packed success.
 const ACCEPTED: u8 = 0;
 
-// A packed success of some fields, the first the lowest, as many as fit above the low byte.
+// A packed success of some fields, the first the lowest, above the low byte; of more than fit, the low 64 bits.
 pub fn pack<F: PackedField, const N: usize>(fields: [F; N]) -> u64
-    ensures { 8 + F.bits * N ≤ 64 → result ≡ packed (accepted (map (λ f. field F.bits (F.value f)) fields)) }
+    ensures fits { 8 + F.bits * N ≤ 64 → result ≡ packed (accepted (map (λ f. field F.bits (F.value f)) fields)) }
+    ensures low_bits { result ≡ packed (accepted (map (λ f. field F.bits (F.value f)) fields)) % 2 ^ 64 }
 {
     let mut above = 0;
     for i in (0..N).rev() {

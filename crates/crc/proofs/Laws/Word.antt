@@ -85,10 +85,22 @@ crc_two a b l h =
     bytes (suc zero) = h
     bytes (suc (suc j)) = omega arith
 
--- words of one byte, and words side by side
+pub two_bytes : (s : List ℕ) → length s ≡ 2 → s ≡ get_or s 0 0 ∷ get_or s 1 0 ∷ []
+two_bytes [] e = let z : ⊥ = omega arith in absurd z
+two_bytes (a ∷ []) e = let z : ⊥ = omega arith in absurd z
+two_bytes (a ∷ (b ∷ [])) e = refl
+two_bytes (a ∷ (b ∷ (c ∷ s))) e = let z : ⊥ = omega arith in absurd z
+
+-- words of one byte and of two, and words side by side
 pub word_one : (s : List ℕ) (i : ℕ) → word 1 s i ≡ get_or s i 0
 unfolding word
 word_one s i = omega arith
+
+pub word_two : (s : List ℕ) (i : ℕ) → get_or s i 0 + get_or s (i + 1) 0 * 256 ≡ word 2 s i
+unfolding word
+word_two s i =
+    let e : get_or s (i + 1) 0 ≡ get_or s (suc i) 0 = ap (λ (n : ℕ). get_or s n 0) (add-one i) in
+    omega arith
 
 pub word-add : (s : List ℕ) (j k i : ℕ) → word (j + k) s i ≡ word j s i + 2 ^ (8 * j) * word k s (i + j)
 unfolding word
