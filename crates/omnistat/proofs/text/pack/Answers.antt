@@ -21,7 +21,7 @@ returns-in-Ok c =
     let count = c.in-Ok.t.count in
     let e = c.in-Ok.ensures in
     let n = text_counted c.args.end s c.in-Ok.t.address c.in-Ok.t.half c.in-Ok.t.start count (sym e) in
-    c.pack.ensures (omega arith)
+    c.pack.ensures.fits (omega arith)
     ∙ ap (λ (kind : ℕ). packed (accepted (byte kind ∷ byte c.in-Ok.t.address ∷ byte c.in-Ok.t.start ∷ byte count ∷ byte c.in-Ok.t.half ∷ []))) c.text_type.ensures
     ∙ ap (λ (k : ℕ). packed (accepted (byte (text_type c.args.end) ∷ byte c.in-Ok.t.address ∷ byte c.in-Ok.t.start ∷ byte k ∷ byte c.in-Ok.t.half ∷ []))) (sym n)
     ∙ ap (λ (o : Outcome (ℕ × Text)). packed (on_accepted (text_fields c.args.end) o)) e
